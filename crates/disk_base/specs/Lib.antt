@@ -1,0 +1,3 @@
+pub mod Cdb
+pub mod Payload
+pub mod Along
