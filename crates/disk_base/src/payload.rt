@@ -2,19 +2,23 @@ ghost use Rattle.std.specs.Prelude.{◌≡◌, ℕ, take, drop, slice_index};
 ghost use Rattle.std.specs.Int.{w32, w64, to_be_bytes};
 ghost use Rattle.disk_base.specs.Payload.{layout, value_for, user_payload, lost_payload, record_payload};
 
-use crate::{Block, Lba, Psn, Value};
+use crate::{BLOCK_LENGTH, Block, Lba, Psn, Value};
 
 /// Bytes of a payload.
 pub const PAYLOAD_LENGTH: usize = 528;
 
 // Where the parts of a payload stand in its bytes.
 const PSN_AT: usize = 4;
+
 const ADDRESS_AT: usize = 8;
+
 const BLOCK_AT: usize = 16;
 
 /// The kinds of payload that a sector may carry.
 const USER: u8 = 1;
+
 const LOST: u8 = 2;
+
 const MAP_RECORD: u8 = 3;
 
 /// What a sector carries: sixteen bytes of heading and 512 bytes of data. Each choice of fields is a payload, and
@@ -64,19 +68,12 @@ impl Payload {
             version: 0,
             psn: p,
             address: b.0,
-            block: [0; 512],
+            block: [0; BLOCK_LENGTH],
         }
     }
 
     /// A record of a map for a sector.
-    pub fn map_record(
-        p: Psn,
-        index: u8,
-        state: u8,
-        version: u8,
-        number: u64,
-        block: &Block,
-    ) -> Self
+    pub fn map_record(p: Psn, index: u8, state: u8, version: u8, number: u64, block: &Block) -> Self
         ensures { result ≡ record_payload p index state version number block.now }
     {
         Payload {
@@ -94,16 +91,7 @@ impl Payload {
     pub fn of_bytes(bytes: [u8; PAYLOAD_LENGTH]) -> Self
         ensures { layout result ≡ bytes }
     {
-        let [kind, index, state, version, p0, p1, p2, p3, a0, a1, a2, a3, a4, a5, a6, a7, ..] = bytes;
-        Payload {
-            kind,
-            index,
-            state,
-            version,
-            psn: Psn(u32::from_be_bytes([p0, p1, p2, p3])),
-            address: u64::from_be_bytes([a0, a1, a2, a3, a4, a5, a6, a7]),
-            block: block_of(&bytes),
-        }
+        payload_of(&bytes)
     }
 
     /// The bytes of the payload; `of_bytes` takes them back.
@@ -133,11 +121,38 @@ impl Payload {
     }
 }
 
-// The data behind the heading.
-fn block_of(bytes: &[u8; PAYLOAD_LENGTH]) -> Block
-    ensures { result ≡ drop 16 bytes.now }
+// The payload of these bytes, whose ranges are known behind a reference.
+fn payload_of(bytes: &[u8; PAYLOAD_LENGTH]) -> Payload
+    ensures { layout result ≡ bytes.now }
 {
-    let mut block = [0; 512];
+    let [
+        kind,
+        index,
+        state,
+        version,
+        p0,
+        p1,
+        p2,
+        p3,
+        a0,
+        a1,
+        a2,
+        a3,
+        a4,
+        a5,
+        a6,
+        a7,
+        ..
+    ] = *bytes;
+    let mut block = [0; BLOCK_LENGTH];
     block.copy_from_slice(&bytes[BLOCK_AT..]);
-    block
+    Payload {
+        kind,
+        index,
+        state,
+        version,
+        psn: Psn(u32::from_be_bytes([p0, p1, p2, p3])),
+        address: u64::from_be_bytes([a0, a1, a2, a3, a4, a5, a6, a7]),
+        block,
+    }
 }
