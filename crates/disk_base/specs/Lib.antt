@@ -1,3 +1,4 @@
 pub mod Cdb
 pub mod Payload
 pub mod Along
+pub mod At
