@@ -1,7 +1,8 @@
-ghost use Rattle.std.specs.Prelude.{◌≡◌, ◌/◌, ◌≤◌, ◌↔◌, length, IsSome, IfSome};
+ghost use Rattle.std.specs.Prelude.{◌≡◌, ◌/◌, ◌≤◌, ◌↔◌, length, IsSome, IfSome, IfOk};
 ghost use Rattle.disk_base.specs.Cdb.{IsCommandBlock, allows_length};
 
-use crate::{Bytes, Tag};
+use crate::{Bytes, NoMemory, Tag};
+use std::alloc::Global;
 use std::marker::Model;
 
 /// The most bytes that a command block has.
@@ -100,4 +101,17 @@ pub enum DataOut {
     /// Every byte is this one, and there are as many as the command takes.
     Fill(u8),
     Given(Bytes),
+}
+
+impl DataOut {
+    /// Equal data in memory of their own.
+    pub fn copy(&self, alloc: Global) -> Result<Self, NoMemory>
+        ensures { IfOk result (λ sent. sent ≡ self.now) }
+    {
+        Ok(match self {
+            DataOut::Nothing => DataOut::Nothing,
+            DataOut::Fill(byte) => DataOut::Fill(*byte),
+            DataOut::Given(bytes) => DataOut::Given(bytes.copy(alloc)?),
+        })
+    }
 }
