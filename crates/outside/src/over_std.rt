@@ -24,7 +24,7 @@ impl<R: Read> Source for FromRead<R> {
 
     ghost faults = { λ s. s.faults };
 
-    /// Fails where the reader does.
+    /// Fails where the reader does, also where it was only interrupted.
     fn read(&mut self, into: &mut [u8]) -> ReadAnswer {
         match self.inner.read(into) {
             Ok(0) if !into.is_empty() => ReadAnswer::End,
@@ -58,7 +58,7 @@ impl<W: Write> Sink for ToWrite<W> {
 
     ghost faults = { λ s. s.faults };
 
-    /// Fails where the writer does, or takes nothing of a piece that has bytes.
+    /// Fails where the writer does, also where it was only interrupted, or takes nothing of a piece that has bytes.
     fn write(&mut self, piece: &[u8]) -> SinkAnswer {
         match self.inner.write(piece) {
             Ok(count) if count > 0 || piece.is_empty() => SinkAnswer::Took(count),

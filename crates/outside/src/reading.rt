@@ -40,6 +40,7 @@ pub fn read_to_end<S: Source>(alloc: Global, source: &mut S, most: usize) -> Rea
     let mut piece = [0; PIECE];
     let mut room = most;
     loop {
+        // One byte past the room shows that the source is longer.
         let wanted = room.min(PIECE - 1) + 1;
         match source.read(&mut piece[..wanted]) {
             ReadAnswer::Got(count) if count > room => return Reading::TooLong,

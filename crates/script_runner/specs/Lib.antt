@@ -4,3 +4,6 @@ pub mod Report
 pub mod Counted
 pub mod Turns
 pub mod Run
+pub mod Words
+pub mod Outcome
+pub mod Ran

@@ -69,10 +69,11 @@ command_of line = do
   cdb ← block_of digits
   Some (Command 1 tag Simple cdb Nothing)
 
+-- the lines of a script that begins with this command, or else with a line that is refused, and goes on with the rest
+abbrev pub script_from : Option Line → List ℕ → Result (List Line) ℕ
+script_from None rest = Err 1
+script_from (Some command) rest = if length rest == 0 then Ok (command ∷ Go ∷ []) else Err 2
+
 -- the lines of a script, or the number of the first line that is refused; the last line may lack its end
 abbrev pub script_of : List ℕ → Result (List Line) ℕ
-script_of [] = Ok []
-script_of (byte ∷ bytes) = elim (command_of (before 10 (byte ∷ bytes))) [
-    None ↦ Err 1
-  | Some command ↦ if length (behind 10 (byte ∷ bytes)) == 0 then Ok (command ∷ Go ∷ []) else Err 2
-  ]
+script_of bytes = if length bytes == 0 then Ok [] else script_from (command_of (before 10 bytes)) (behind 10 bytes)

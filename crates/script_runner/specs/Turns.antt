@@ -7,6 +7,7 @@ use Rattle.block_machine.specs.declared.turn.Entry.{Entry}
 use Rattle.block_machine.specs.declared.turn.Entry.TheVariants.{Arrived, Started, Get, Ended}
 use Rattle.block_machine.specs.declared.turn.Turn.{Turn}
 use Rattle.block_machine.specs.Blocks.{zeros}
+use Rattle.block_machine.specs.History.{is_simple}
 use Rattle.script_runner.specs.declared.script.Line.{Line}
 use Rattle.script_runner.specs.declared.script.Line.TheVariants.{Command, Go}
 use Rattle.script_runner.specs.Script.{is_served}
@@ -33,9 +34,9 @@ abbrev pub turns_for : List Line → List Turn
 turns_for (command ∷ Go ∷ []) = command_turns command
 turns_for lines = []
 
--- a command that lines have is one that is served
+-- a command is one that is served
 abbrev pub IsServedLine : Line → Type 0
-IsServedLine (Command i t a cdb sent) = IsTrue (is_served cdb)
+IsServedLine (Command i t a cdb sent) = IsTrue (is_simple a) × IsTrue (is_served cdb)
 IsServedLine Go = Unit {0}
 
 abbrev pub AreServed : List Line → Type 0

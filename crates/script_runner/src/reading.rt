@@ -1,6 +1,7 @@
 //! Reading a script of the first path: nothing, or one READ(10) of one block by initiator 1.
 
-ghost use Rattle.std.specs.Prelude.{◌≡◌, ◌==◌, ◌≤◌, length, position};
+ghost use Rattle.std.specs.Prelude.{◌≡◌, ◌==◌, ◌≤◌, length, position, IfOk, IfSome, IsTrue};
+ghost use Rattle.script_runner.specs.Turns.{IsServedLine, AreServed};
 ghost use Rattle.std.specs.List.{list_all, position_or_len};
 ghost use Rattle.std.specs.Char.{is_ascii_digit};
 ghost use Rattle.script_runner.specs.Script.{before, behind, is_numeral, tag_of, is_served, block_of, command_of, script_of};
@@ -13,7 +14,8 @@ use std::alloc::Global;
 
 /// The lines of a script, or the first line that is refused.
 pub(crate) fn read_script(alloc: Global, bytes: &[u8]) -> Result<Script, ScriptFault>
-    ensures { Reads result (script_of bytes.now) }
+    ensures meaning { Reads result (script_of bytes.now) }
+    ensures served { IfOk result (λ script. AreServed script.lines) }
 {
     let mut lines = Items::new(alloc);
     if bytes.is_empty() {
@@ -42,7 +44,8 @@ fn refused(line: u32) -> ScriptFault
 
 // A line `cmd 1 TAG S CDB`.
 fn command_of(line: &[u8]) -> Option<Line>
-    ensures { result ≡ command_of line.now }
+    ensures meaning { result ≡ command_of line.now }
+    ensures served { IfSome result IsServedLine }
 {
     let (tag, rest) = split_at_first(b' ', line.strip_prefix(b"cmd 1 ")?);
     let tag = tag_of(tag)?;
@@ -123,7 +126,8 @@ fn is_served(bytes: &[u8]) -> bool
 
 // The command block that twenty hexadecimal digits give, where it is served.
 fn block_of(digits: &[u8]) -> Option<Cdb>
-    ensures { result ≡ block_of digits.now }
+    ensures meaning { result ≡ block_of digits.now }
+    ensures served { IfSome result (λ cdb. IsTrue (is_served cdb)) }
 {
     let mut bytes = [0; 10];
     hex::decode_to_slice(digits, &mut bytes).ok()?;

@@ -1,0 +1,101 @@
+-- What the top call answers, and what it leaves.
+use Rattle.std.specs.Prelude.{◌≡◌, ◌+◌, ℕ, ◌≤◌, ⊤, List, [], ◌∷◌, ◌++◌, length, codes, decimal, Option, Some, None, Result, Ok, Err, IsOk}
+use Rattle.std.specs.Io.KnownBytes.{Consumes, Appends, Keeps, IsAtEnd}
+use Rattle.outside.specs.Pieces.{ConsumesAtMost, ConsumesExactly, AppendsFront}
+use Rattle.script_runner.specs.declared.script.Why.{Why}
+use Rattle.script_runner.specs.declared.script.Why.TheVariants.{Later}
+use Rattle.script_runner.specs.declared.run.Run.{Run}
+use Rattle.script_runner.specs.declared.outcome.Outcome.{Outcome}
+use Rattle.script_runner.specs.declared.outcome.Outcome.TheVariants.{Served, Usage, TooLong, Refused, ReadFault, WriteFault, NoMemory}
+use Rattle.script_runner.specs.Script.{script_of}
+use Rattle.script_runner.specs.Report.{report_of}
+use Rattle.script_runner.specs.Run.{IsGood}
+
+-- the most bytes that a script has
+abbrev pub script_limit : ℕ
+script_limit = 4194304
+
+-- all bytes left were read, no more than a script may have, and P holds of them
+abbrev pub ReadsAll : Option (List ℕ) → Option (List ℕ) → (List ℕ → Type 0) → Type 0
+ReadsAll old new P = (bytes : List ℕ) × Consumes old new bytes × IsAtEnd new × (length bytes ≤ script_limit) × P bytes
+
+-- bytes mean the script of a run, and the run is a good one
+abbrev pub IsRunOf : Run → List ℕ → Type 0
+IsRunOf run bytes = (script_of bytes ≡ Ok run.script.lines) × IsGood run
+
+-- what was read of the source, by what the call answers
+abbrev pub SourceOf : Option (List ℕ) → Option (List ℕ) → Outcome → Type 0
+SourceOf old new (Served run) = ReadsAll old new (IsRunOf run)
+SourceOf old new (WriteFault run) = ReadsAll old new (IsRunOf run)
+SourceOf old new (Refused line why) = ReadsAll old new (λ bytes. script_of bytes ≡ Err line)
+SourceOf old new TooLong = ConsumesExactly old new (script_limit + 1)
+SourceOf old new ReadFault = ConsumesAtMost old new script_limit
+SourceOf old new NoMemory = ConsumesAtMost old new (script_limit + 1)
+SourceOf old new (Usage word) = ⊤
+
+-- what the sink got, by what the call answers
+abbrev pub SinkOf : Option (List ℕ) → Option (List ℕ) → Outcome → Type 0
+SinkOf old new (Served run) = Appends old new (report_of run.turns)
+SinkOf old new (WriteFault run) = AppendsFront old new (report_of run.turns)
+SinkOf old new (Refused line why) = Keeps old new
+SinkOf old new TooLong = Keeps old new
+SinkOf old new ReadFault = Keeps old new
+SinkOf old new NoMemory = Keeps old new
+SinkOf old new (Usage word) = Keeps old new
+
+-- nothing was to be printed
+abbrev pub IsQuiet : Outcome → Type 0
+IsQuiet (Served run) = ⊥
+IsQuiet (WriteFault run) = ⊥
+IsQuiet (Refused line why) = ⊤
+IsQuiet TooLong = ⊤
+IsQuiet ReadFault = ⊤
+IsQuiet NoMemory = ⊤
+IsQuiet (Usage word) = ⊤
+
+abbrev pub IsWriteFault : Outcome → Type 0
+IsWriteFault (Served run) = ⊥
+IsWriteFault (WriteFault run) = ⊤
+IsWriteFault (Refused line why) = ⊥
+IsWriteFault TooLong = ⊥
+IsWriteFault ReadFault = ⊥
+IsWriteFault NoMemory = ⊥
+IsWriteFault (Usage word) = ⊥
+
+-- served, or there was no memory
+abbrev pub IsServedIfMemory : Outcome → Type 0
+IsServedIfMemory (Served run) = ⊤
+IsServedIfMemory (WriteFault run) = ⊥
+IsServedIfMemory (Refused line why) = ⊥
+IsServedIfMemory TooLong = ⊥
+IsServedIfMemory ReadFault = ⊥
+IsServedIfMemory NoMemory = ⊤
+IsServedIfMemory (Usage word) = ⊥
+
+-- the bytes left are known, and are a script that is served
+abbrev pub HasScript : Option (List ℕ) → Type 0
+HasScript (Some bytes) = (length bytes ≤ script_limit) × IsOk (script_of bytes)
+HasScript None = ⊥
+
+-- the exit status of the program
+abbrev pub status_of : Outcome → ℕ
+status_of (Served run) = 0
+status_of (Usage word) = 1
+status_of TooLong = 2
+status_of (Refused line why) = 2
+status_of ReadFault = 3
+status_of (WriteFault run) = 4
+status_of NoMemory = 5
+
+abbrev pub why_word : Why → List ℕ
+why_word Later = codes "later"
+
+-- the line that is said of an answer, where it isn't served
+abbrev pub said_of : Outcome → List ℕ
+said_of (Served run) = []
+said_of (Usage word) = codes "usage: word " ++ decimal word ++ 10 ∷ []
+said_of TooLong = codes "too long\n"
+said_of (Refused line why) = codes "line " ++ decimal line ++ (codes ": " ++ why_word why ++ 10 ∷ [])
+said_of ReadFault = codes "read fault\n"
+said_of (WriteFault run) = codes "write fault\n"
+said_of NoMemory = codes "no memory\n"
