@@ -1,8 +1,10 @@
 -- A payload's bytes taken apart into its heading and the data behind it.
-use Rattle.std.proofs.Common.{◌≡◌, ℕ, zero, suc, ◌+◌, ◌<◌, ◌≤◌, List, [], ◌∷◌, ◌++◌, length, drop, get_or, arith, sym, ap, ◌∙◌, refl, drop-cons, lit<}
+use Rattle.std.proofs.Common.{◌≡◌, ℕ, zero, suc, ◌+◌, ◌<◌, ◌≤◌, List, [], ◌∷◌, ◌++◌, length, take, drop, get_or, arith, sym, ap, ◌∙◌, refl, drop-cons, lit<}
 use Rattle.std.specs.Int.{w32, w64, to_be_bytes, from_be_bytes}
 use Rattle.std.specs.List.{AllByRecursion}
-use Rattle.std.proofs.lemmas.Nat.{be_bytes_4, be_bytes_8}
+use Rattle.std.proofs.lemmas.Nat.{be_bytes_4, be_bytes_8, from_be_bytes-to_be_bytes_4, from_be_bytes-to_be_bytes_8}
+use Rattle.disk_base.specs.declared.payload.Payload.{Payload}
+use Rattle.disk_base.specs.Payload.{layout, IsPayload}
 
 -- one item and what stands behind it
 one : (bs : List ℕ) (i j : ℕ) → j ≡ suc i → j ≤ length bs → get_or bs i 0 ∷ drop j bs ≡ drop i bs
@@ -43,3 +45,25 @@ laid_out bs psn address block long small is_psn is_address is_block =
     ∙ four bs 8 9 10 11 12 refl refl refl refl (omega arith))
     ∙ four bs 4 5 6 7 8 refl refl refl refl (omega arith))
     ∙ four bs 0 1 2 3 4 refl refl refl refl (omega arith)
+
+-- a payload by its fields
+made : ℕ → ℕ → ℕ → ℕ → ℕ → ℕ → List ℕ → Payload
+made kind index state version psn address block =
+    record { kind = kind; index = index; state = state; version = version; psn = record { 0 = psn }; address = address; block = block }
+
+-- payloads that are laid out alike are alike
+pub alike : (p q : Payload) → IsPayload p → IsPayload q → layout p ≡ layout q → p ≡ q
+unfolding made
+alike p q in_p in_q e =
+    let kind : p.kind ≡ q.kind = ap (λ t. get_or t 0 0) e in
+    let index : p.index ≡ q.index = ap (λ t. get_or t 1 0) e in
+    let state : p.state ≡ q.state = ap (λ t. get_or t 2 0) e in
+    let version : p.version ≡ q.version = ap (λ t. get_or t 3 0) e in
+    let psn : p.psn.0 ≡ q.psn.0 =
+    sym (from_be_bytes-to_be_bytes_4 p.psn.0 in_p.psn) ∙ ap (λ t. from_be_bytes w32 (take 4 (drop 4 t))) e ∙ from_be_bytes-to_be_bytes_4 q.psn.0 in_q.psn in
+    let address : p.address ≡ q.address =
+    sym (from_be_bytes-to_be_bytes_8 p.address in_p.address) ∙ ap (λ t. from_be_bytes w64 (take 8 (drop 8 t))) e ∙ from_be_bytes-to_be_bytes_8 q.address in_q.address in
+    let block : p.block ≡ q.block = ap (λ t. drop 16 t) e in
+    let same : made p.kind p.index p.state p.version p.psn.0 p.address p.block ≡ made q.kind q.index q.state q.version q.psn.0 q.address q.block
+    = rw (kind, index, state, version, psn, address, block) in
+    same

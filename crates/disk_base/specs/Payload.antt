@@ -1,5 +1,5 @@
 -- What a sector carries.
-use Rattle.std.specs.Prelude.{ℕ, ◌==◌, ◌&&◌, if◌then◌else◌, List, ◌∷◌, ◌++◌, replicate}
+use Rattle.std.specs.Prelude.{◌≡◌, ℕ, ◌^◌, ◌<◌, ◌==◌, ◌&&◌, if◌then◌else◌, List, ◌∷◌, ◌++◌, replicate, length}
 use Rattle.std.specs.Int.{w32, w64, to_be_bytes}
 use Rattle.disk_base.specs.declared.address.Lba.{Lba}
 use Rattle.disk_base.specs.declared.address.Psn.{Psn}
@@ -11,6 +11,16 @@ use Rattle.disk_base.specs.declared.payload.Payload.{Payload}
 -- the block's address or the map's number in eight, each high byte first, and the data
 abbrev pub layout : Payload → List ℕ
 layout p = p.kind ∷ p.index ∷ p.state ∷ p.version ∷ (to_be_bytes w32 p.psn.0 ++ (to_be_bytes w64 p.address ++ p.block))
+
+-- the fields are in the ranges of their types
+pub record IsPayload (p : Payload) : Type 0 where
+  pub kind : p.kind < 256
+  pub index : p.index < 256
+  pub state : p.state < 256
+  pub version : p.version < 256
+  pub psn : p.psn.0 < 2 ^ 32
+  pub address : p.address < 2 ^ 64
+  pub long : length p.block ≡ 512
 
 -- a user block of this address with these data, for this sector
 abbrev pub user_payload : Psn → Lba → List ℕ → Payload

@@ -1,6 +1,7 @@
-ghost use Rattle.std.specs.Prelude.{◌≡◌, ℕ, take, drop, slice_index};
+ghost use Rattle.std.specs.Prelude.{◌≡◌, drop, slice_index, slice_range};
 ghost use Rattle.std.specs.Int.{w32, w64, to_be_bytes};
-ghost use Rattle.disk_base.specs.Payload.{layout, value_for, user_payload, lost_payload, record_payload};
+ghost use Rattle.disk_base.specs.declared.payload.Payload.{Payload};
+ghost use Rattle.disk_base.specs.Payload.{layout, IsPayload, value_for, user_payload, lost_payload, record_payload};
 
 use crate::{BLOCK_LENGTH, Block, Lba, Psn, Value};
 
@@ -89,7 +90,10 @@ impl Payload {
 
     /// The payload of these bytes; `bytes` gives them back.
     pub fn of_bytes(bytes: [u8; PAYLOAD_LENGTH]) -> Self
-        ensures { layout result ≡ bytes }
+        ensures laid_out { layout result ≡ bytes }
+
+        // No other payload is laid out as these bytes.
+        ensures only { (p : Payload) → IsPayload p → layout p ≡ bytes → result ≡ p }
     {
         payload_of(&bytes)
     }
@@ -109,6 +113,55 @@ impl Payload {
         bytes
     }
 
+    /// Byte 0.
+    pub fn kind(&self) -> u8
+        ensures { result ≡ slice_index (layout self.now) 0 }
+    {
+        self.kind
+    }
+
+    /// Byte 1.
+    pub fn index(&self) -> u8
+        ensures { result ≡ slice_index (layout self.now) 1 }
+    {
+        self.index
+    }
+
+    /// Byte 2.
+    pub fn state(&self) -> u8
+        ensures { result ≡ slice_index (layout self.now) 2 }
+    {
+        self.state
+    }
+
+    /// Byte 3.
+    pub fn version(&self) -> u8
+        ensures { result ≡ slice_index (layout self.now) 3 }
+    {
+        self.version
+    }
+
+    /// Bytes 4 to 7.
+    pub fn psn(&self) -> Psn
+        ensures { to_be_bytes w32 result.0 ≡ slice_range (layout self.now) 4 8 }
+    {
+        self.psn
+    }
+
+    /// Bytes 8 to 15: the block's address, in a map record the map's number.
+    pub fn address(&self) -> u64
+        ensures { to_be_bytes w64 result ≡ slice_range (layout self.now) 8 16 }
+    {
+        self.address
+    }
+
+    /// Bytes 16 to 527.
+    pub fn block(&self) -> Block
+        ensures { result ≡ drop 16 (layout self.now) }
+    {
+        self.block
+    }
+
     /// The value that the payload has for a block.
     pub fn value(&self, b: Lba) -> Value
         ensures { result ≡ value_for b self.now }
@@ -123,7 +176,8 @@ impl Payload {
 
 // The payload of these bytes, whose ranges are known behind a reference.
 fn payload_of(bytes: &[u8; PAYLOAD_LENGTH]) -> Payload
-    ensures { layout result ≡ bytes.now }
+    ensures laid_out { layout result ≡ bytes.now }
+    ensures only { (p : Payload) → IsPayload p → layout p ≡ bytes.now → result ≡ p }
 {
     let [
         kind,
