@@ -1,6 +1,6 @@
 -- What decimal digits are worth.
-use Rattle.std.proofs.Common.{◌≡◌, ℕ, suc, ◌+◌, ◌-◌, ◌*◌, ◌<◌, ◌≤◌, Bool, false, nat_lt, List, [], ◌∷◌, length, drop, get_or, drop-cons, arith, ap, ◌∙◌}
-use Rattle.std.specs.Prelude.{fold, Option, Some, None, if◌then◌else◌, ◌&&◌}
+use Rattle.std.proofs.Common.{◌≡◌, ℕ, suc, ◌<◌, ◌≤◌, Bool, nat_lt, List, [], ◌∷◌, length, drop, get_or, drop-cons, arith, ap}
+use Rattle.std.specs.Prelude.{fold, Option, Some, None, if◌then◌else◌}
 use Rattle.std.proofs.lemmas.Bool.{le-ltb, and_right}
 use Rattle.disk_base.specs.declared.address.Tag.{Tag}
 use Rattle.script_runner.specs.Script.{with_digit, worth, is_numeral, tag_of}

@@ -1,7 +1,7 @@
 -- The first place that passes a test.
 use Rattle.std.proofs.Common.{◌≡◌, ℕ, ◌≤◌, Bool, List, length, nat_lt, cond, arith}
-use Rattle.std.specs.Prelude.{position, unwrap_or, Option, Some, None}
-use Rattle.std.specs.List.{position_or_len, prefix_len}
+use Rattle.std.specs.Prelude.{position, unwrap_or, Some, None}
+use Rattle.std.specs.List.{position_or_len}
 use Rattle.std.proofs.lemmas.List.Sums.{prefix_len-le-length}
 use Rattle.std.proofs.lemmas.Bool.Decides.{nat_tests}
 

@@ -99,7 +99,7 @@ nothing_words = codes "aborted" ∷ decimal 0 ∷ codes "cut" ∷ decimal 0 ∷ 
 abbrev pub summary_line : List Turn → List ℕ
 summary_line turns =
     spaced (spaced (spaced (codes "turns") (decimal (length turns) ∷ codes "commands" ∷ decimal (entries_that is_arrival turns) ∷ []))
-      (end_words turns)) nothing_words ++ 10 ∷ []
+    (end_words turns)) nothing_words ++ 10 ∷ []
 
 -- the report of a history: a line for each turn, and the summary
 abbrev pub report_of : List Turn → List ℕ

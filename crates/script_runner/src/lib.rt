@@ -8,9 +8,11 @@ mod reading;
 mod run;
 mod script;
 mod serve;
+#[cfg(test)]
+mod tests;
 mod words;
 
 pub use outcome::Outcome;
 pub use run::Run;
-pub use serve::serve_alone;
 pub use script::{Line, Lines, Script, Why};
+pub use serve::serve_alone;

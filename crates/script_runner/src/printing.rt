@@ -13,7 +13,9 @@ use std::alloc::Global;
 
 /// Statuses (SAM-4, status codes).
 pub(crate) const GOOD: u8 = 0x00;
+
 const CHECK_CONDITION: u8 = 0x02;
+
 const TASK_SET_FULL: u8 = 0x28;
 
 /// The report of turns: a line for each, and the summary.
@@ -242,7 +244,10 @@ fn count(counted: Counted, turns: &[Turn]) -> u128
 fn count_in(counted: Counted, entries: &[Entry]) -> usize
     ensures { result ≡ count_by (is_counted counted) entries.now }
 {
-    entries.iter().filter(|entry| is_counted(counted, entry)).count()
+    entries
+        .iter()
+        .filter(|entry| is_counted(counted, entry))
+        .count()
 }
 
 fn is_counted(counted: Counted, entry: &Entry) -> bool

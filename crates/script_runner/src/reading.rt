@@ -131,5 +131,9 @@ fn block_of(digits: &[u8]) -> Option<Cdb>
 {
     let mut bytes = [0; 10];
     hex::decode_to_slice(digits, &mut bytes).ok()?;
-    if is_served(&bytes) { Cdb::new(&bytes) } else { None }
+    if is_served(&bytes) {
+        Cdb::new(&bytes)
+    } else {
+        None
+    }
 }

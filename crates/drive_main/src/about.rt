@@ -1,0 +1,32 @@
+//! What the program says of itself.
+
+/// What is said, and the exit status, where this text can't be written; the top call has the same for a report.
+pub const WRITE_FAULT: &[u8] = b"write fault\n";
+pub const WRITE_FAULT_STATUS: u8 = 4;
+
+const VERSION: &[u8] = b"neprozul 0.1.0\nproved with rattle-kit-13f logic dac8208d650f15bf\n";
+
+const HELP: &[u8] = b"drive: the controller firmware of a disk drive, run over a script of commands
+
+usage: drive run < SCRIPT    carries the script out and writes its report
+       drive --help          this text
+       drive --version       the version, and the kit that it is proved with
+
+A script has lines of words parted by one space. Served so far is one line,
+    cmd 1 TAG S CDB
+by which initiator 1 sends the command block CDB, in hexadecimal digits, under a tag from 0 to 65535;
+the command is READ(10) of one block below 912: 2800, eight digits of address, 00000100.
+The report has a line for each turn of the drive, and a summary. docs/FORMATS.md says what stands in it.
+
+exit status: 0 served, 1 wrong words, 2 a script that is refused or too long, 3 a fault of reading,
+4 a fault of writing, 5 no memory. At 1 to 5 one line on standard error says what it was.
+";
+
+/// The text that is the answer to these words alone.
+pub fn text_for(words: &[&str]) -> Option<&'static [u8]> {
+    match words {
+        [word] if *word == "--help" => Some(HELP),
+        [word] if *word == "--version" => Some(VERSION),
+        _ => None,
+    }
+}
