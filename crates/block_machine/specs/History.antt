@@ -106,10 +106,10 @@ owes_no_end None = true
 -- whether a turn may come
 abbrev pub turn_lawful : ℕ → State → Turn → Bool
 turn_lawful capacity s turn = elim turn.label [
-    Arrive i ↦ arrival_lawful s i turn.entries
+  | Arrive i ↦ arrival_lawful s i turn.entries
   | Work c ↦ starts_alone turn.entries && all_along (entry_after capacity) (work_lawful capacity c) s turn.entries
       && owes_no_end (owed_by (state_after capacity s turn.entries) c)
-  ]
+]
 
 abbrev pub turn_after : ℕ → State → Turn → State
 turn_after capacity s turn = state_after capacity s turn.entries

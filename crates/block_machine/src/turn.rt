@@ -22,11 +22,20 @@ pub enum Entry {
         sent: DataOut,
     },
     /// The first work turn of a command.
-    Started { c: u32 },
+    Started {
+        c: u32,
+    },
     /// A command got the value of a block.
-    Get { c: u32, b: Lba, value: Value },
+    Get {
+        c: u32,
+        b: Lba,
+        value: Value,
+    },
     /// A command ended with a status (SAM-4, status codes).
-    Ended { c: u32, status: u8 },
+    Ended {
+        c: u32,
+        status: u8,
+    },
 }
 
 /// The entries of a turn, in order.

@@ -2,6 +2,7 @@
 
 /// What is said, and the exit status, where this text can't be written; the top call has the same for a report.
 pub const WRITE_FAULT: &[u8] = b"write fault\n";
+
 pub const WRITE_FAULT_STATUS: u8 = 4;
 
 const VERSION: &[u8] = b"neprozul 0.1.0\nproved with rattle-kit-13f logic dac8208d650f15bf\n";
