@@ -3,15 +3,15 @@ ghost use Rattle.std.specs.Prelude.{◌≡◌, ◌≤◌, ◌↔◌, IsSome, IfS
 use std::marker::Model;
 
 /// The address of a logical block, from 0 up (SBC-3, 4.5).
-#[derive(Clone, Copy, Debug, PartialEq, Eq, PartialOrd, Ord, Hash)]
+#[derive(Clone, Copy, Debug, Default, PartialEq, Eq, PartialOrd, Ord, Hash)]
 pub struct Lba(pub u64);
 
 /// The number of a sector of the platter: sectors first, then heads, then cylinders, from 0 up.
-#[derive(Clone, Copy, Debug, PartialEq, Eq, PartialOrd, Ord, Hash)]
+#[derive(Clone, Copy, Debug, Default, PartialEq, Eq, PartialOrd, Ord, Hash)]
 pub struct Psn(pub u32);
 
 /// The tag by which an initiator names one of its commands (SAM-4, 4.9).
-#[derive(Clone, Copy, Debug, PartialEq, Eq, PartialOrd, Ord, Hash)]
+#[derive(Clone, Copy, Debug, Default, PartialEq, Eq, PartialOrd, Ord, Hash)]
 pub struct Tag(pub u16);
 
 /// One of the eight initiators, by its number from 1 to 8.
@@ -51,5 +51,16 @@ impl Initiator {
         ensures high { result ≤ 8 }
     {
         self.number
+    }
+}
+
+/// The first initiator, for lists of fixed room.
+impl Default for Initiator {
+    ghost use Rattle.std.specs.Prelude.{◌≡◌};
+
+    ghost is_default = { λ i. i ≡ 1 };
+
+    fn default() -> Self {
+        Initiator { number: 1 }
     }
 }

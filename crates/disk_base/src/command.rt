@@ -74,8 +74,9 @@ fn is_length_of(first: u8, len: usize) -> bool
 }
 
 /// The task attribute of a command (SAM-4, task attributes).
-#[derive(Clone, Copy, Debug, PartialEq, Eq)]
+#[derive(Clone, Copy, Debug, Default, PartialEq, Eq)]
 pub enum Attribute {
+    #[default]
     Simple,
     Ordered,
     Head,

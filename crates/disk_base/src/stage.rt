@@ -1,7 +1,8 @@
 /// How the interleaves of a sector are decoded.
-#[derive(Clone, Copy, Debug, PartialEq, Eq)]
+#[derive(Clone, Copy, Debug, Default, PartialEq, Eq)]
 pub enum How {
     /// The codeword at no more than 4 wrong bytes.
+    #[default]
     Light,
     /// The codeword at no more than 8 wrong bytes.
     Full,
@@ -10,7 +11,7 @@ pub enum How {
 }
 
 /// One stage of a staged read.
-#[derive(Clone, Copy, Debug, PartialEq, Eq)]
+#[derive(Clone, Copy, Debug, Default, PartialEq, Eq)]
 pub struct Stage {
     /// The stage's number, from 0.
     pub number: u8,
