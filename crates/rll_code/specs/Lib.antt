@@ -1,0 +1,5 @@
+pub mod Bits
+pub mod Code
+pub mod Laws
+pub mod Reading
+pub mod Steps
