@@ -1,0 +1,14 @@
+pub mod Words
+pub mod Best
+pub mod Steps
+pub mod Ends
+pub mod Traces
+pub mod LevelWords
+pub mod Distances
+pub mod Allowed
+pub mod Detection
+pub mod Clean
+pub mod ChannelBits
+pub mod Examples
+pub mod CleanPlaces
+pub mod Rebuilt

@@ -1,0 +1,7 @@
+-- Whether the places so far are clean.
+use Rattle.std.proofs.Common.{ℕ, ◌<◌, ◌≤◌, length, Decides}
+use Rattle.prml_viterbi.specs.Clean.{IsCleanAt}
+use Rattle.prml_viterbi.proofs.shortcut.starts_clean.Given as goal
+
+abbrev pub invariant-loop-k : goal.invariant-loop-k
+invariant-loop-k l = Decides l.clean ((j : ℕ) → 0 ≤ j → j < l.k → j < length l.samples → IsCleanAt l.samples l.word j)

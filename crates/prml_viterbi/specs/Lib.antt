@@ -1,0 +1,5 @@
+pub mod Levels
+pub mod Detected
+pub mod Trellis
+pub mod Sums
+pub mod Clean
