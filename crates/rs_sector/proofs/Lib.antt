@@ -1,0 +1,17 @@
+pub mod FieldLaws
+pub mod Powers
+pub mod ProductTables
+pub mod LaneLaws
+pub mod Sums
+pub mod Vanishing
+pub mod RowTables
+pub mod Codewords
+pub mod Numbering
+pub mod Examples
+pub mod Roots
+pub mod Errors
+pub mod Pivoting
+pub mod Suspects
+pub mod Solving
+pub mod Repairing
+pub mod Reach

@@ -1,0 +1,9 @@
+pub mod Field
+pub mod Code
+pub mod Lanes
+pub mod Sector
+pub mod Decoding
+pub mod Locating
+pub mod Pivots
+pub mod Places
+pub mod Laws
