@@ -1,0 +1,4 @@
+pub mod Ages
+pub mod CommonBlock
+pub mod Free
+pub mod Examples

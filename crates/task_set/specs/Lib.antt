@@ -1,0 +1,3 @@
+pub mod Touch
+pub mod MayStart
+pub mod Members
