@@ -1,0 +1,4 @@
+pub mod Flags
+pub mod Reach
+pub mod Back
+pub mod Zeros
