@@ -1,30 +1,15 @@
 ghost use Rattle.std.specs.Prelude.{◌≡◌};
 ghost use Rattle.task_set.specs.MayStart.{forbids};
 
-use crate::{Task, Touch, collide};
-use disk_base::{Attribute, Initiator, Tag};
+use crate::{Task, collide};
+use disk_base::Attribute;
 
 /// A command in the task set.
-#[derive(Clone, Copy, Debug, PartialEq, Eq)]
+#[derive(Clone, Copy, Debug, Default, PartialEq, Eq)]
 pub struct Member {
     pub task: Task,
     /// Whether it was started.
     pub started: bool,
-}
-
-impl Default for Member {
-    fn default() -> Self {
-        Member {
-            task: Task {
-                c: 0,
-                initiator: Initiator::new(1).unwrap(),
-                tag: Tag(0),
-                attribute: Attribute::Simple,
-                touch: Touch::Nothing,
-            },
-            started: false,
-        }
-    }
 }
 
 /// Whether a command in the set forbids the start of another.

@@ -4,8 +4,9 @@ ghost use Rattle.task_set.specs.Touch.{collide, ranges_meet, CollideAtABlock};
 use disk_base::{Attribute, Initiator, Tag};
 
 /// The blocks that a command touches.
-#[derive(Clone, Copy, Debug, PartialEq, Eq)]
+#[derive(Clone, Copy, Debug, Default, PartialEq, Eq)]
 pub enum Touch {
+    #[default]
     Nothing,
     /// So many blocks from an address on.
     Range { from: u64, count: u64, writes: bool },
@@ -14,7 +15,7 @@ pub enum Touch {
 }
 
 /// A command as the task set knows it.
-#[derive(Clone, Copy, Debug, PartialEq, Eq)]
+#[derive(Clone, Copy, Debug, Default, PartialEq, Eq)]
 pub struct Task {
     /// The command's number; a later command has a greater one.
     pub c: u32,
