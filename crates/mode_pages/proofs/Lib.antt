@@ -1,0 +1,5 @@
+pub mod Lengths
+pub mod FrontPage
+pub mod Bits
+pub mod TakenBack
+pub mod Examples
