@@ -11,7 +11,7 @@ use tables::{BITS, FLAGS, PENDING, SPREAD, WAITING, WORDS};
 const BYTES: usize = 592;
 const CHANNEL: usize = 9478;
 
-mod by_table {
+pub mod by_table {
     use super::*;
 
     fn spread(word: u32) -> &'static [bool] {

@@ -87,7 +87,7 @@ fn check_rows() -> &'static [[u8; 16]; 16] {
     unsafe { &*std::ptr::addr_of!(CHECKS) }
 }
 
-fn fill_tables() {
+pub fn fill_tables() {
     for b in 0..10 {
         for i in 0..9 {
             for j in 0..16 {
@@ -153,7 +153,7 @@ fn eliminate(sums: &mut [u8; 16], point: u8) {
     *sums = stored(unsafe { _mm_xor_si128(_mm_alignr_epi8(lanes, lanes, 1), scaled(point, lanes)) });
 }
 
-fn encode(plain: &[u8; 132]) -> [u8; 148] {
+pub fn encode(plain: &[u8; 132]) -> [u8; 148] {
     let sums = combined(plain, &POINT_POWERS);
     let checks = combined(&sums, check_rows());
     let mut word = [0; 148];
@@ -282,7 +282,7 @@ fn wrong_places(a: &[u8; 148], b: &[u8; 148], erased: &[bool; 148]) -> usize {
     (0..148).filter(|&k| !erased[k] && a[k] != b[k]).count()
 }
 
-fn nearest(word: &[u8; 148], radius: usize) -> Option<[u8; 148]> {
+pub fn nearest(word: &[u8; 148], radius: usize) -> Option<[u8; 148]> {
     let sums = syndromes(word);
     if sums == [0; 16] {
         return Some(*word);

@@ -9,7 +9,7 @@ const FAR: u64 = 1 << 62;
 const PART: usize = 256;
 const BEFORE: [u32; 4] = [0x28f0_6540, 0x28f0_6545, 0x32f0_6540, 0x32f0_6545];
 
-fn levels_of(chan: &[bool], out: &mut [i8]) {
+pub fn levels_of(chan: &[bool], out: &mut [i8]) {
     let mut high = true;
     for (level, bit) in out.iter_mut().zip(chan) {
         high ^= bit;
@@ -17,7 +17,7 @@ fn levels_of(chan: &[bool], out: &mut [i8]) {
     }
 }
 
-fn samples_of(levels: &[i8], out: &mut [i8]) {
+pub fn samples_of(levels: &[i8], out: &mut [i8]) {
     let mut two_back = true;
     let mut one_back = true;
     for (sample, level) in out.iter_mut().zip(levels) {
@@ -141,12 +141,12 @@ fn are_clean(samples: &[i8], word: &[i8]) -> bool {
     clean
 }
 
-fn search_and_trace(samples: &[i8], survivors: &mut [u8], out: &mut [i8]) {
+pub fn search_and_trace(samples: &[i8], survivors: &mut [u8], out: &mut [i8]) {
     let end = search(samples, survivors);
     trace(survivors, end, out);
 }
 
-fn detect(samples: &[i8], survivors: &mut [u8], out: &mut [i8]) {
+pub fn detect(samples: &[i8], survivors: &mut [u8], out: &mut [i8]) {
     if !(rebuild(samples, out) && are_clean(samples, out)) {
         search_and_trace(samples, survivors, out);
     }
