@@ -1,0 +1,141 @@
+-- Maps of a drive of 1,024 sectors, with what is so by each and what is not.
+use Rattle.std.proofs.Common.{◌≡◌, ℕ, ◌-◌, List, [], ◌∷◌, refl, lit≤, lit<, true, false, arith}
+use Rattle.std.specs.Prelude.{Some, None, replicate}
+use Rattle.disk_base.specs.declared.address.Lba.{Lba}
+use Rattle.geometry_map.specs.declared.limits.TheConstants.{LIST_LENGTH_MAX}
+use Rattle.geometry_map.specs.declared.size.Size.{Size}
+use Rattle.geometry_map.specs.declared.pair.Pair.{Pair}
+use Rattle.geometry_map.specs.Placer.{gaps_of, remap_of}
+use Rattle.geometry_map.specs.Size.{LiesAt}
+use Rattle.geometry_map.specs.ValidMap.{is_valid_map}
+use Rattle.geometry_map.specs.DefectMap.{DefectMap, sector, factory_map, with_pairs, place_of, next_spare_of, AscendsWithin, IsPair}
+
+abbrev drive : Size
+drive = record {
+  cylinders = 16;
+  heads = 4;
+  sectors = 16;
+  reserved = 96;
+  within_limits = record {
+    a_cylinder = lit≤ tt;
+    few_cylinders = lit≤ tt;
+    a_head = lit≤ tt;
+    few_heads = lit≤ tt;
+    a_sector = lit≤ tt;
+    short_tracks = lit≤ tt;
+    least = lit≤ tt;
+    greatest = lit≤ tt;
+    a_block = lit< tt;
+  };
+}
+
+abbrev block : ℕ → Lba
+block b = record { 0 = b }
+
+abbrev pair : ℕ → ℕ → Pair
+pair old new = record { old = sector old; new = sector new }
+
+-- without defects block b is at 16 + b, and the spares are the last 96 sectors
+abbrev new_map : DefectMap
+new_map = factory_map drive []
+
+first_block : place_of new_map (block 0) ≡ sector 16
+first_block = refl
+
+last_block : place_of new_map (block 911) ≡ sector 927
+last_block = refl
+
+first_spare : next_spare_of new_map [] ≡ Some (sector 928)
+first_spare = refl
+
+-- past a primary defect each block is one sector later
+abbrev one_defect : DefectMap
+one_defect = factory_map drive (sector 20 ∷ [])
+
+before_the_defect : place_of one_defect (block 3) ≡ sector 19
+before_the_defect = refl
+
+after_the_defect : place_of one_defect (block 4) ≡ sector 21
+after_the_defect = refl
+
+spare_after_a_slip : next_spare_of one_defect [] ≡ Some (sector 929)
+spare_after_a_slip = refl
+
+-- a chain is gone through in order: in the other order it ends at its bad spare
+abbrev chain : List Pair
+chain = pair 16 928 ∷ pair 928 929 ∷ []
+
+end_of_a_chain : place_of (with_pairs new_map chain) (block 0) ≡ sector 929
+end_of_a_chain = refl
+
+other_order : place_of (with_pairs new_map (pair 928 929 ∷ pair 16 928 ∷ [])) (block 0) ≡ sector 928
+other_order = refl
+
+-- neither spare of the chain is given again, nor one that is taken
+spare_after_a_chain : next_spare_of (with_pairs new_map chain) [] ≡ Some (sector 930)
+spare_after_a_chain = refl
+
+spare_after_taken : next_spare_of (with_pairs new_map chain) (sector 930 ∷ []) ≡ Some (sector 931)
+spare_after_taken = refl
+
+-- old of a pair is not given either
+spare_after_old : next_spare_of (with_pairs new_map (pair 928 930 ∷ [])) [] ≡ Some (sector 929)
+spare_after_old = refl
+
+-- beside the two pairs of the chain all but two sectors that a list may have are taken, or one less
+no_spare_past_the_lists : next_spare_of (with_pairs new_map chain) (replicate (LIST_LENGTH_MAX - 2) (sector 0)) ≡ None
+no_spare_past_the_lists = refl
+
+spare_within_the_lists : next_spare_of (with_pairs new_map chain) (replicate (LIST_LENGTH_MAX - 3) (sector 0)) ≡ Some (sector 930)
+spare_within_the_lists = refl
+
+-- the lists of a placer, where sector 20 is a primary defect and block 0 is at spare 929
+gap_of_a_defect : gaps_of (sector 20 ∷ []) ≡ 4 ∷ []
+gap_of_a_defect = refl
+
+gaps_of_neighbours : gaps_of (sector 20 ∷ sector 21 ∷ sector 30 ∷ []) ≡ 4 ∷ 4 ∷ 12 ∷ []
+gaps_of_neighbours = refl
+
+route_of_a_pair : remap_of (with_pairs one_defect (pair 16 929 ∷ [])) ≡ pair 16 929 ∷ []
+route_of_a_pair = refl
+
+-- a chain is one route, and a pair that no block goes through is none
+route_of_a_chain : remap_of (with_pairs new_map (pair 928 930 ∷ chain)) ≡ pair 16 929 ∷ []
+route_of_a_chain = refl
+
+-- a primary list may not name a sector twice, nor one of the map, nor one past the drive
+not_twice : AscendsWithin 16 1024 (sector 20 ∷ sector 20 ∷ []) → ⊥
+not_twice up = absurd (omega arith)
+
+not_of_the_map : AscendsWithin 16 1024 (sector 15 ∷ []) → ⊥
+not_of_the_map up = absurd (omega arith)
+
+not_past_the_drive : AscendsWithin 16 1024 (sector 1024 ∷ []) → ⊥
+not_past_the_drive up = absurd (omega arith)
+
+-- new of a pair may not be a sector of a block
+not_to_a_block : IsPair drive [] (pair 16 927) → ⊥
+not_to_a_block is = absurd (let no : false ≡ true = is.new in cc)
+
+-- sector 1023 is the last of the last track
+last_sector : LiesAt drive 1023 15 3 15
+last_sector = record { number = refl; on_a_head = lit< tt; on_a_track = lit< tt }
+
+-- a chain is valid, and so is a pair whose old no block goes through; a spare in two pairs is not, nor is a pair of the map's sectors
+valid_chain : is_valid_map (with_pairs new_map chain) ≡ true
+valid_chain = refl
+
+valid_stray_pair : is_valid_map (with_pairs one_defect (pair 20 929 ∷ [])) ≡ true
+valid_stray_pair = refl
+
+spare_in_two_pairs : is_valid_map (with_pairs new_map (pair 16 928 ∷ pair 17 928 ∷ [])) ≡ false
+spare_in_two_pairs = refl
+
+pair_of_the_map : is_valid_map (with_pairs new_map (pair 15 928 ∷ [])) ≡ false
+pair_of_the_map = refl
+
+pair_to_a_slipped_block : is_valid_map (with_pairs one_defect (pair 16 928 ∷ [])) ≡ false
+pair_to_a_slipped_block = refl
+
+twice_in_the_primary_list : is_valid_map (factory_map drive (sector 20 ∷ sector 20 ∷ [])) ≡ false
+twice_in_the_primary_list = refl

@@ -1,0 +1,11 @@
+pub mod SlipLemmas
+pub mod SpareLemmas
+pub mod PairLemmas
+pub mod Places
+pub mod Numbering
+pub mod OwnSpares
+pub mod Examples
+pub mod GapLemmas
+pub mod RemapLemmas
+pub mod Halving
+pub mod Validity

@@ -1,0 +1,46 @@
+-- Pairs that have spares of their own, one more at a time.
+use Rattle.std.proofs.Common.{◌≡◌, ℕ, ◌+◌, ◌<◌, Bool, true, false, List, length, get_or, take, sym, ◌∙◌, ap, subst, inl, inr, arith, length-take}
+use Rattle.std.specs.Prelude.{◌==◌, AllPairs}
+use Rattle.std.specs.List.{list_any}
+use Rattle.std.proofs.lemmas.List.{get_or-take, get_or_default, take_more}
+use Rattle.std.proofs.lemmas.List.Folds.{list_any_at, Any-from_list_any}
+use Rattle.std.proofs.lemmas.List.Quantifiers.{all_pairs_push}
+use Rattle.std.proofs.lemmas.Bool.Decides.{eqb_tells}
+use Rattle.geometry_map.specs.declared.pair.Pair.{Pair}
+use Rattle.geometry_map.specs.DefectMap.{HaveOwnSpares}
+
+pub true_false : true ≡ false → ⊥
+true_false e = cc
+
+pub eqb_true : (x y : ℕ) → (x == y) ≡ true → x ≡ y
+eqb_true x y e = elim (eqb_tells x y) [ inl w ↦ w.1 | inr w ↦ absurd (true_false (sym e ∙ w.0)) ]
+
+pub eqb_same : (x y : ℕ) → x ≡ y → (x == y) ≡ true
+eqb_same x y e = elim (eqb_tells x y) [ inl w ↦ w.0 | inr w ↦ absurd (w.1 e) ]
+
+-- whether one of these pairs has that spare
+abbrev pub has_spare_of : ℕ → List Pair → Bool
+has_spare_of p pairs = list_any (λ pair. pair.new.0 == p) pairs
+
+-- a pair whose spare an earlier one has
+pub own_spares-fail : (pairs : List Pair) (i : ℕ) (d : Pair) → i < length pairs → has_spare_of (get_or pairs i d).new.0 (take i pairs) ≡ true → AllPairs HaveOwnSpares pairs → ⊥
+own_spares-fail pairs i d within found own =
+    let some = Any-from_list_any (λ pair. pair.new.0 == (get_or pairs i d).new.0) (take i pairs) found in
+    let before : some.0 < i = omega (arith, some.2, length-take i pairs) in
+    let earlier : get_or pairs some.0 some.1 ≡ some.1 = sym (get_or-take i pairs some.0 some.1 before) ∙ some.3 in
+    let same : some.1.new.0 ≡ (get_or pairs i d).new.0 = eqb_true some.1.new.0 (get_or pairs i d).new.0 some.4 in
+    let new : Pair → ℕ = λ pair. pair.new.0 in
+    own some.0 i some.1 before within (ap new earlier ∙ same ∙ ap new (get_or_default pairs i d some.1 within))
+
+-- a pair whose spare no earlier one has
+pub own_spares-more : (pairs : List Pair) (i : ℕ) (d : Pair) → i < length pairs → has_spare_of (get_or pairs i d).new.0 (take i pairs) ≡ false
+    → AllPairs HaveOwnSpares (take i pairs) → AllPairs HaveOwnSpares (take (i + 1) pairs)
+own_spares-more pairs i d within none own =
+    let here : Pair = get_or pairs i d in
+    let apart : (k : ℕ) (e : Pair) → k < length (take i pairs) → HaveOwnSpares (get_or (take i pairs) k e) (get_or pairs i d) =
+    λ k e in' same.
+    let found : has_spare_of (get_or pairs i d).new.0 (take i pairs) ≡ true =
+    list_any_at (λ pair. pair.new.0 == (get_or pairs i d).new.0) (take i pairs) k e in' (eqb_same (get_or (take i pairs) k e).new.0 (get_or pairs i d).new.0 same) in
+    true_false (sym found ∙ none) in
+    let P : List Pair → Type 0 = AllPairs HaveOwnSpares in
+    subst P (sym (take_more pairs i d within)) (all_pairs_push HaveOwnSpares (take i pairs) (get_or pairs i d) own apart)
