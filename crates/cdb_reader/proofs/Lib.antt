@@ -1,0 +1,2 @@
+mod PlanExamples
+mod ReadExamples

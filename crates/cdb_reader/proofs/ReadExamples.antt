@@ -1,0 +1,108 @@
+-- Command blocks with what they ask for, or the first check that refuses them, on a disk of 912 blocks.
+use Rattle.std.proofs.Common.{◌≡◌, ℕ, true, false, List, [], ◌∷◌, refl}
+use Rattle.std.specs.Prelude.{Result, Ok, Err}
+use Rattle.disk_base.specs.declared.command.DataOut.{DataOut}
+use Rattle.disk_base.specs.declared.command.DataOut.TheVariants.{Nothing, Fill, Given}
+use Rattle.sense_data.specs.declared.sense.Sense.{Sense}
+use Rattle.sense_data.specs.Sense.{sense_of}
+use Rattle.cdb_reader.specs.Operation.{operation_of}
+use Rattle.cdb_reader.specs.Read.{read_of}
+use Rattle.cdb_reader.specs.Request.{Request, ReassignBlocks, Read, Write, SynchronizeCache}
+
+abbrev outcome : List ℕ → DataOut → Result Request Sense
+outcome bs sent = read_of bs sent 912
+
+-- the last block
+read_last : outcome (0x28 ∷ 0x00 ∷ 0x00 ∷ 0x00 ∷ 0x03 ∷ 0x8F ∷ 0x00 ∷ 0x00 ∷ 0x01 ∷ 0x00 ∷ []) Nothing ≡ Ok (Read 911 1 false)
+unfolding operation_of
+read_last = refl
+
+-- one block past it
+read_past : outcome (0x28 ∷ 0x00 ∷ 0x00 ∷ 0x00 ∷ 0x03 ∷ 0x90 ∷ 0x00 ∷ 0x00 ∷ 0x01 ∷ 0x00 ∷ []) Nothing ≡ Err (sense_of 5 0x21 0x00)
+unfolding operation_of
+read_past = refl
+
+-- no block at the end
+read_none_at_the_end : outcome (0x28 ∷ 0x00 ∷ 0x00 ∷ 0x00 ∷ 0x03 ∷ 0x90 ∷ 0x00 ∷ 0x00 ∷ 0x00 ∷ 0x00 ∷ []) Nothing ≡ Ok (Read 912 0 false)
+unfolding operation_of
+read_none_at_the_end = refl
+
+-- no block past the end
+read_none_past_the_end : outcome (0x28 ∷ 0x00 ∷ 0x00 ∷ 0x00 ∷ 0x03 ∷ 0x91 ∷ 0x00 ∷ 0x00 ∷ 0x00 ∷ 0x00 ∷ []) Nothing ≡ Err (sense_of 5 0x21 0x00)
+unfolding operation_of
+read_none_past_the_end = refl
+
+-- a protection field stands before an address past the end
+protect_first : outcome (0x28 ∷ 0x20 ∷ 0x00 ∷ 0x00 ∷ 0x03 ∷ 0x90 ∷ 0x00 ∷ 0x00 ∷ 0x01 ∷ 0x00 ∷ []) Nothing ≡ Err (sense_of 5 0x24 0x00)
+unfolding operation_of
+protect_first = refl
+
+-- and without it the address is refused
+protect_alone : outcome (0x28 ∷ 0x00 ∷ 0x00 ∷ 0x00 ∷ 0x03 ∷ 0x90 ∷ 0x00 ∷ 0x00 ∷ 0x01 ∷ 0x00 ∷ []) Nothing ≡ Err (sense_of 5 0x21 0x00)
+unfolding operation_of
+protect_alone = refl
+
+-- NACA
+naca_set : outcome (0x28 ∷ 0x00 ∷ 0x00 ∷ 0x00 ∷ 0x00 ∷ 0x00 ∷ 0x00 ∷ 0x00 ∷ 0x01 ∷ 0x04 ∷ []) Nothing ≡ Err (sense_of 5 0x24 0x00)
+unfolding operation_of
+naca_set = refl
+
+-- a 16-byte form with FUA
+sixteen : outcome (0x88 ∷ 0x08 ∷ 0x00 ∷ 0x00 ∷ 0x00 ∷ 0x00 ∷ 0x00 ∷ 0x00 ∷ 0x02 ∷ 0x01 ∷ 0x00 ∷ 0x00 ∷ 0x01 ∷ 0x00 ∷ 0x00 ∷ 0x00 ∷ []) Nothing ≡ Ok (Read 0x201 256 true)
+unfolding operation_of
+sixteen = refl
+
+-- 257 blocks
+sixteen_too_long : outcome (0x88 ∷ 0x00 ∷ 0x00 ∷ 0x00 ∷ 0x00 ∷ 0x00 ∷ 0x00 ∷ 0x00 ∷ 0x00 ∷ 0x00 ∷ 0x00 ∷ 0x00 ∷ 0x01 ∷ 0x01 ∷ 0x00 ∷ 0x00 ∷ []) Nothing ≡ Err (sense_of 5 0x24 0x00)
+unfolding operation_of
+sixteen_too_long = refl
+
+-- the last address of 64 bits
+sum_without_an_end : outcome (0x88 ∷ 0x00 ∷ 0xFF ∷ 0xFF ∷ 0xFF ∷ 0xFF ∷ 0xFF ∷ 0xFF ∷ 0xFF ∷ 0xFF ∷ 0x00 ∷ 0x00 ∷ 0x00 ∷ 0x01 ∷ 0x00 ∷ 0x00 ∷ []) Nothing ≡ Err (sense_of 5 0x21 0x00)
+unfolding operation_of
+sum_without_an_end = refl
+
+-- data of one byte for a block
+write_short : outcome (0x2A ∷ 0x00 ∷ 0x00 ∷ 0x00 ∷ 0x00 ∷ 0x00 ∷ 0x00 ∷ 0x00 ∷ 0x01 ∷ 0x00 ∷ []) (Given (0x07 ∷ [])) ≡ Err (sense_of 5 0x24 0x00)
+unfolding operation_of
+write_short = refl
+
+-- no data for no block
+write_none : outcome (0x2A ∷ 0x00 ∷ 0x00 ∷ 0x00 ∷ 0x00 ∷ 0x00 ∷ 0x00 ∷ 0x00 ∷ 0x00 ∷ 0x00 ∷ []) Nothing ≡ Ok (Write 0 0 false)
+unfolding operation_of
+write_none = refl
+
+-- a sync up to the last block
+sync_all : outcome (0x35 ∷ 0x00 ∷ 0x00 ∷ 0x00 ∷ 0x03 ∷ 0x80 ∷ 0x00 ∷ 0x00 ∷ 0x00 ∷ 0x00 ∷ []) Nothing ≡ Ok (SynchronizeCache 0x380 16)
+unfolding operation_of
+sync_all = refl
+
+-- a sync that begins at the end
+sync_none : outcome (0x35 ∷ 0x00 ∷ 0x00 ∷ 0x00 ∷ 0x03 ∷ 0x90 ∷ 0x00 ∷ 0x00 ∷ 0x00 ∷ 0x00 ∷ []) Nothing ≡ Ok (SynchronizeCache 912 0)
+unfolding operation_of
+sync_none = refl
+
+-- FORMAT UNIT
+format : outcome (0x04 ∷ 0x00 ∷ 0x00 ∷ 0x00 ∷ 0x00 ∷ 0x00 ∷ []) Nothing ≡ Err (sense_of 5 0x20 0x00)
+unfolding operation_of
+format = refl
+
+-- two blocks to reassign
+reassign_two : outcome (0x07 ∷ 0x00 ∷ 0x00 ∷ 0x00 ∷ 0x00 ∷ 0x00 ∷ []) (Given (0x00 ∷ 0x00 ∷ 0x00 ∷ 0x08 ∷ 0x00 ∷ 0x00 ∷ 0x00 ∷ 0x05 ∷ 0x00 ∷ 0x00 ∷ 0x03 ∷ 0x8F ∷ [])) ≡ Ok (ReassignBlocks (record { 0 = 5 } ∷ record { 0 = 911 } ∷ []))
+unfolding operation_of
+reassign_two = refl
+
+-- one by a long address
+reassign_long : outcome (0x07 ∷ 0x03 ∷ 0x00 ∷ 0x00 ∷ 0x00 ∷ 0x00 ∷ []) (Given (0x00 ∷ 0x00 ∷ 0x00 ∷ 0x08 ∷ 0x00 ∷ 0x00 ∷ 0x00 ∷ 0x00 ∷ 0x00 ∷ 0x00 ∷ 0x00 ∷ 0x05 ∷ [])) ≡ Ok (ReassignBlocks (record { 0 = 5 } ∷ []))
+unfolding operation_of
+reassign_long = refl
+
+-- one past the end
+reassign_past : outcome (0x07 ∷ 0x00 ∷ 0x00 ∷ 0x00 ∷ 0x00 ∷ 0x00 ∷ []) (Given (0x00 ∷ 0x00 ∷ 0x00 ∷ 0x08 ∷ 0x00 ∷ 0x00 ∷ 0x00 ∷ 0x05 ∷ 0x00 ∷ 0x00 ∷ 0x03 ∷ 0x90 ∷ [])) ≡ Err (sense_of 5 0x21 0x00)
+unfolding operation_of
+reassign_past = refl
+
+-- one repeated byte is no list
+reassign_fill : outcome (0x07 ∷ 0x00 ∷ 0x00 ∷ 0x00 ∷ 0x00 ∷ 0x00 ∷ []) (Fill 0) ≡ Err (sense_of 5 0x1A 0x00)
+unfolding operation_of
+reassign_fill = refl
