@@ -1,5 +1,5 @@
-ghost use Rattle.std.specs.Prelude.{◌≡◌, length, pos, ◌*ℤ◌, ◌-ℤ◌};
-ghost use Rattle.prml_viterbi.specs.Levels.{AreLevels, level_for, level_word, channel_bits, clean_samples, InvertEachOther, SpacedGiveAllowed};
+ghost use Rattle.std.specs.Prelude.{◌≡◌, ◌<◌, ◌+◌, length, pos, ◌*ℤ◌, ◌-ℤ◌};
+ghost use Rattle.prml_viterbi.specs.Levels.{AreLevels, is_high, level_at, level_for, level_word, channel_bits, clean_samples, InvertEachOther, SpacedGiveAllowed};
 
 /// Writes the level word of channel bits: a bit 1 flips the level, and +1 stands before the first.
 pub fn levels_of(chan: &[bool], out: &mut [i8])
@@ -34,14 +34,19 @@ pub fn samples_of(levels: &[i8], out: &mut [i8])
     requires levels { AreLevels levels.now }
     ensures { out.new ≡ clean_samples levels.now }
 {
-    let mut two_back = true;
-    let mut one_back = true;
     for (k, level) in levels.iter().enumerate() {
-        let high = *level > 0;
-        out[k] = clean_sample(high, two_back);
-        two_back = one_back;
-        one_back = high;
+        out[k] = clean_sample(*level > 0, is_high_two_back(levels, k));
     }
+}
+
+/// Whether the level two places before a place is the high one.
+#[inline(always)]
+fn is_high_two_back(levels: &[i8], k: usize) -> bool
+    requires place { k < length levels.now }
+    requires levels { AreLevels levels.now }
+    ensures { result ≡ is_high (level_at levels.now (k + 1)) }
+{
+    k < 2 || levels[k - 2] > 0
 }
 
 /// The level, +1 or -1.
