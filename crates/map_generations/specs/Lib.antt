@@ -1,0 +1,2 @@
+pub mod MapRecord
+pub mod Laws
