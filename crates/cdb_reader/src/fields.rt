@@ -1,4 +1,5 @@
 ghost use Rattle.std.specs.Prelude.{◌≡◌, ◌+◌, ◌<◌, ◌^◌, slice_index};
+ghost use Rattle.cdb_reader.specs.Request.{list_length};
 ghost use Rattle.cdb_reader.specs.Fields.{bit, two_bytes, four_bytes, eight_bytes, naca, is_sixteen, is_ten};
 
 /// The byte at a place, 0 past the end.
@@ -73,4 +74,15 @@ pub fn is_ten(bytes: &[u8]) -> bool
     ensures { result ≡ is_ten bytes.now }
 {
     byte(bytes, 0) / 32 == 2
+}
+
+/// An allocation or parameter list length of a command with a 6-byte and a 10-byte form.
+pub fn list_length(bytes: &[u8]) -> u16
+    ensures { result ≡ list_length bytes.now }
+{
+    if is_ten(bytes) {
+        two_bytes(bytes, 7)
+    } else {
+        byte(bytes, 4) as u16
+    }
 }

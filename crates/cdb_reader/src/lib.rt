@@ -5,6 +5,7 @@
 mod command;
 mod fields;
 mod operation;
+mod pages;
 mod plan;
 mod reader;
 mod reassign;

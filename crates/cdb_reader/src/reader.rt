@@ -1,11 +1,15 @@
 ghost use Rattle.std.specs.Prelude.{◌≡◌, false, IfOk, IsTrue};
 ghost use Rattle.cdb_reader.specs.Operation.{refuses_field, reaches_past};
 ghost use Rattle.cdb_reader.specs.Read.{asked, has_data, has_length, in_range, read_of, refuses_blocks, refuses_list_length};
-ghost use Rattle.cdb_reader.specs.Request.{outcome_of, request_of, list_length, sync_count};
+ghost use Rattle.cdb_reader.specs.Request.{outcome_of, request_of, sync_count};
 
 use crate::Command;
-use crate::fields::{bit, byte, four_bytes, has_naca, is_ten, two_bytes};
+use crate::fields::{bit, byte, has_naca, list_length};
 use crate::operation::{Operation, address, block_count};
+use crate::pages::{
+    inquiry, log_sense, mode_select, mode_sense, read_capacity_16, read_defect_data, report_luns,
+    request_sense,
+};
 use crate::reassign::{list_sent, read_blocks};
 use disk_base::{BLOCK_LENGTH, Cdb, DataOut};
 use sense_data::Sense;
@@ -57,34 +61,13 @@ fn command_of(
 {
     Ok(match operation {
         Operation::TestUnitReady => Command::TestUnitReady,
-        Operation::RequestSense => Command::RequestSense {
-            allocation: byte(bytes, 4),
-        },
+        Operation::RequestSense => request_sense(bytes),
         Operation::ReassignBlocks => Command::ReassignBlocks {
-            blocks: read_blocks(
-                bit(bytes, 1, 1),
-                bit(bytes, 1, 0),
-                list_sent(sent),
-                capacity,
-            )?,
+            blocks: read_blocks(bytes, list_sent(sent), capacity)?,
         },
-        Operation::Inquiry => Command::Inquiry {
-            evpd: bit(bytes, 1, 0),
-            page: byte(bytes, 2),
-            allocation: two_bytes(bytes, 3),
-        },
-        Operation::ModeSelect => Command::ModeSelect {
-            ten: is_ten(bytes),
-            length: list_length(bytes),
-        },
-        Operation::ModeSense => Command::ModeSense {
-            ten: is_ten(bytes),
-            dbd: bit(bytes, 1, 3),
-            control: byte(bytes, 2) / 64,
-            page: byte(bytes, 2) % 64,
-            subpage: byte(bytes, 3),
-            allocation: list_length(bytes),
-        },
+        Operation::Inquiry => inquiry(bytes),
+        Operation::ModeSelect => mode_select(bytes),
+        Operation::ModeSense => mode_sense(bytes),
         Operation::ReadCapacity10 => Command::ReadCapacity10,
         Operation::Read => Command::Read {
             from: address(bytes),
@@ -108,25 +91,10 @@ fn command_of(
             from: address(bytes),
             count: sync_count(bytes, capacity),
         },
-        Operation::ReadDefectData => Command::ReadDefectData {
-            primary: bit(bytes, 2, 4),
-            grown: bit(bytes, 2, 3),
-            format: byte(bytes, 2) % 8,
-            allocation: two_bytes(bytes, 7),
-        },
-        Operation::LogSense => Command::LogSense {
-            page: byte(bytes, 2) % 64,
-            subpage: byte(bytes, 3),
-            pointer: two_bytes(bytes, 5),
-            allocation: two_bytes(bytes, 7),
-        },
-        Operation::ReadCapacity16 => Command::ReadCapacity16 {
-            allocation: four_bytes(bytes, 10),
-        },
-        Operation::ReportLuns => Command::ReportLuns {
-            select: byte(bytes, 2),
-            allocation: four_bytes(bytes, 6),
-        },
+        Operation::ReadDefectData => read_defect_data(bytes),
+        Operation::LogSense => log_sense(bytes),
+        Operation::ReadCapacity16 => read_capacity_16(bytes),
+        Operation::ReportLuns => report_luns(bytes),
     })
 }
 
@@ -153,17 +121,6 @@ fn has_length(sent: &DataOut, length: usize) -> bool
         DataOut::Nothing => length == 0,
         DataOut::Fill(_) => true,
         DataOut::Given(bytes) => bytes.as_slice().len() == length,
-    }
-}
-
-// An allocation or parameter list length of a command with a 6-byte and a 10-byte form.
-fn list_length(bytes: &[u8]) -> u16
-    ensures { result ≡ list_length bytes.now }
-{
-    if is_ten(bytes) {
-        two_bytes(bytes, 7)
-    } else {
-        byte(bytes, 4) as u16
     }
 }
 

@@ -1,8 +1,9 @@
 ghost use Rattle.std.specs.Prelude.{◌≡◌, ◌≤◌, ◌<◌, ◌+◌, ◌^◌, false, Ok, Err, IfOk, MatchResult};
+ghost use Rattle.cdb_reader.specs.Fields.{bit};
 ghost use Rattle.cdb_reader.specs.Reassign.{address_at, blocks_of, descriptor_length, first_blocks, length_stated, list_sent, some_past};
 
 use crate::command::DESCRIPTORS_MAX;
-use crate::fields::{eight_bytes, four_bytes, two_bytes};
+use crate::fields::{bit, eight_bytes, four_bytes, two_bytes};
 use arrayvec::ArrayVec;
 use disk_base::{DataOut, Lba};
 use sense_data::Sense;
@@ -26,18 +27,16 @@ pub fn list_sent(sent: &DataOut) -> &[u8]
     }
 }
 
-/// The blocks of the parameter list of REASSIGN BLOCKS, or why it is refused.
-pub fn read_blocks(
-    long_address: bool,
-    long_list: bool,
-    list: &[u8],
-    capacity: u64,
-) -> Result<Blocks, Sense>
+/// The blocks of the parameter list of a command block REASSIGN BLOCKS, or why it is refused. LONGLBA and LONGLIST are the
+/// bits 1 and 0 of byte 1.
+pub fn read_blocks(command_block: &[u8], list: &[u8], capacity: u64) -> Result<Blocks, Sense>
     ensures outcome { MatchResult result
-        (λ blocks. blocks_of long_address long_list list.now capacity ≡ Ok blocks.items)
-        (λ sense. blocks_of long_address long_list list.now capacity ≡ Err sense) }
+        (λ blocks. blocks_of (bit command_block.now 1 1) (bit command_block.now 1 0) list.now capacity ≡ Ok blocks.items)
+        (λ sense. blocks_of (bit command_block.now 1 1) (bit command_block.now 1 0) list.now capacity ≡ Err sense) }
     ensures below { IfOk result (λ blocks. some_past blocks.items capacity ≡ false) }
 {
+    let long_address = bit(command_block, 1, 1);
+    let long_list = bit(command_block, 1, 0);
     if list.len() < HEADER_LENGTH {
         return Err(PARAMETER_LIST_LENGTH_ERROR);
     }
