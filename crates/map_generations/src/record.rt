@@ -50,8 +50,11 @@ fn record_block(map: &Map, index: u8) -> Block
 
 // The pairs of the first record and those behind them.
 fn first_and_later(pairs: &[Pair]) -> (&[Pair], &[Pair])
+    requires { length pairs.now ≤ LIST_LENGTH_MAX }
     ensures first { result.0.now ≡ take RECORD_PAIRS pairs.now }
     ensures later { result.1.now ≡ drop RECORD_PAIRS pairs.now }
+    ensures few_first { length result.0.now ≤ RECORD_PAIRS }
+    ensures few_later { length result.1.now ≤ RECORD_PAIRS }
 {
     pairs.split_at(RECORD_PAIRS.min(pairs.len()))
 }
