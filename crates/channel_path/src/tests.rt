@@ -1,7 +1,8 @@
 use super::*;
 use disk_base::{How, Lba, NoMemory, Payload, Psn};
-use prml_viterbi::{levels_of, samples_of};
+use prml_viterbi::{Work, chan_of, detect, levels_of, samples_of};
 use rs_sector::{deal, encode_sector, gather};
+use std::alloc::Global;
 use std::test::Fail;
 
 const WAYS: [How; 3] = [How::Light, How::Full, How::Erased];
@@ -74,20 +75,33 @@ fn wrong_bytes(rt: HostRuntime) -> Result<(), Fail> {
     Ok(())
 }
 
-// A drop of samples reads as bits that are flagged: fourteen bytes of each interleave are within reach as erasures, and
-// eighteen aren't.
+// How many bytes of the first interleave are flagged.
+fn flagged(alloc: Global, samples: &[i8; SAMPLES]) -> Result<usize, Fail> {
+    let mut work = Work::new(alloc, SAMPLES)?;
+    let mut levels = [0; SAMPLES];
+    detect(samples, &mut work, &mut levels);
+    let mut channel = [false; SAMPLES];
+    chan_of(&levels, &mut channel);
+    let mut bytes = [0; 592];
+    let mut flags = [false; 592];
+    rll_code::decode(&channel, &mut bytes, &mut flags);
+    Ok(flags.iter().step_by(4).filter(|flag| **flag).count())
+}
+
+// A drop of samples is heard as flagged bytes: 16 of them in an interleave are within reach as erasures, and 17 aren't.
 #[test]
 fn dropped_samples(rt: HostRuntime) -> Result<(), Fail> {
     let mut path = Path::new(rt.alloc()).map_err(|_: NoMemory| Fail::from("no memory"))?;
     let p = Psn(20);
     let payload = Payload::user(p, Lba(4), &[0x11; 512]);
-    for (bytes, erased) in [(4 * 14, true), (4 * 18, false)] {
+    for (dropped, count, erased) in [(1010, 16, true), (1026, 17, false)] {
         let mut samples = samples_for(&payload);
         for (k, sample) in samples.iter_mut().enumerate() {
-            if 1600 <= k && k < 1600 + 16 * bytes {
+            if 1600 <= k && k < 1600 + dropped {
                 *sample = 0;
             }
         }
+        assert_eq!(rt; flagged(rt.alloc(), &samples)?, count);
         assert!(rt; read_samples(&mut path, p, &samples, How::Light).is_none());
         assert!(rt; read_samples(&mut path, p, &samples, How::Full).is_none());
         assert_eq!(rt;
