@@ -335,6 +335,12 @@ fn mended(words: &[[u8; 148]; 4], count: u32, wrong: usize) -> u32 {
     })
 }
 
+fn clean(words: &[[u8; 148]; 4], count: u32) -> u32 {
+    (0..count).fold(0, |checksum, turn| {
+        nearest(&words[(turn % 4) as usize], 8).map_or(checksum, |found| mixed(checksum, found[(turn % 148) as usize]))
+    })
+}
+
 fn erased_mended(words: &[[u8; 148]; 4], count: u32) -> u32 {
     (0..count).fold(0, |checksum, turn| {
         let word = damaged(&words[(turn % 4) as usize], turn, 16);
@@ -373,6 +379,18 @@ fn checked(words: &[[u8; 148]; 4], count: u32) -> u32 {
     (0..count).fold(0, |checksum, turn| mixed(checksum, is_codeword(&words[(turn % 4) as usize]) as u8))
 }
 
+fn checked_and_copied(words: &[[u8; 148]; 4], count: u32) -> u32 {
+    (0..count).fold(0, |checksum, turn| {
+        let word = &words[(turn % 4) as usize];
+        if is_codeword(word) {
+            let copy = std::hint::black_box(*word);
+            mixed(checksum, copy[(turn % 148) as usize])
+        } else {
+            checksum
+        }
+    })
+}
+
 fn main() {
     fill_tables();
     let arguments: Vec<String> = std::env::args().collect();
@@ -381,9 +399,10 @@ fn main() {
     let checksum = match arguments[1].as_str() {
         "encode" => encoded(count),
         "check" => checked(&words, count),
+        "check_copy" => checked_and_copied(&words, count),
         "encode_sector" => sectors_encoded(count),
         "check_sector" => sectors_checked(&words, count),
-        "clean" => mended(&words, count, 0),
+        "clean" => clean(&words, count),
         "wrong1" => mended(&words, count, 1),
         "wrong4" => mended(&words, count, 4),
         "wrong8" => mended(&words, count, 8),

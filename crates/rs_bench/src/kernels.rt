@@ -7,9 +7,10 @@ pub fn run(kernel: &str, count: u32) -> Option<u32> {
     let checksum = match kernel {
         "encode" => encoded(count),
         "check" => checked(&words, count),
+        "check_copy" => checked_and_copied(&words, count),
         "encode_sector" => sectors_encoded(count),
         "check_sector" => sectors_checked(&words, count),
-        "clean" => mended(&words, count, 0),
+        "clean" => clean(&words, count),
         "wrong1" => mended(&words, count, 1),
         "wrong4" => mended(&words, count, 4),
         "wrong8" => mended(&words, count, 8),
@@ -51,6 +52,19 @@ fn encoded(count: u32) -> u32 {
     checksum
 }
 
+// The check of a clean word and a copy of it, which is what a decoder has to do at least.
+fn checked_and_copied(words: &[[u8; 148]; 4], count: u32) -> u32 {
+    let mut checksum = 0;
+    for turn in 0..count {
+        let word = &words[(turn % 4) as usize];
+        if is_codeword(word) {
+            let copy = *word;
+            checksum = mixed(checksum, copy[(turn % 148) as usize]);
+        }
+    }
+    checksum
+}
+
 fn sectors_encoded(count: u32) -> u32 {
     let mut plain = [data(0), data(1), data(2), data(3)];
     let mut checksum = 0;
@@ -82,6 +96,16 @@ fn sectors_checked(words: &[[u8; 148]; 4], count: u32) -> u32 {
         sector[(turn % 4) as usize] = words[(turn % 4) as usize];
         let clean = are_codewords(&sector);
         checksum = mixed(checksum, if clean { 1 } else { 0 });
+    }
+    checksum
+}
+
+fn clean(words: &[[u8; 148]; 4], count: u32) -> u32 {
+    let mut checksum = 0;
+    for turn in 0..count {
+        if let Some(found) = &nearest(&words[(turn % 4) as usize], 8) {
+            checksum = mixed(checksum, found[(turn % 148) as usize]);
+        }
     }
     checksum
 }

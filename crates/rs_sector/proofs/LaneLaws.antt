@@ -10,7 +10,7 @@ use lib.Lanes.{zip2, pick_l, Each1}
 use Rattle.std.specs.List.{range_with_len}
 use Rattle.rs_sector.specs.Field.{field_product, multiples, sum_below}
 use Rattle.rs_sector.specs.Code.{AreBytes}
-use Rattle.rs_sector.specs.Lanes.{entry, combination, combination_of, AddsScaled, Eliminates}
+use Rattle.rs_sector.specs.Lanes.{entry, combination, combination_of, combination_of_first, AddsScaled, Eliminates}
 use Rattle.rs_sector.proofs.Sums.{sum-suc}
 use Rattle.rs_sector.proofs.FieldLaws.{product_of_sum, product-lt}
 
@@ -82,17 +82,18 @@ scaled_lanes a v low high fits el eh =
 
 -- ---- the sum of the rows
 
--- lane j after n bytes
-abbrev pub partial : List ℕ → List (List ℕ) → ℕ → ℕ → ℕ
+-- lane j after n rows
+abbrev partial : List ℕ → List (List ℕ) → ℕ → ℕ → ℕ
 partial bytes rows n j = sum_below (λ k. field_product (get_or bytes k 0) (entry rows k j)) n
 
-pub partial_none : (bytes : List ℕ) (rows : List (List ℕ)) → replicate 16 0 ≡ map (partial bytes rows 0) (range_with_len 0 16)
-unfolding sum_below
-partial_none bytes rows = refl
+pub first_none : (bytes : List ℕ) (rows : List (List ℕ)) → replicate 16 0 ≡ combination_of_first bytes rows 0
+unfolding combination_of_first sum_below
+first_none bytes rows = refl
 
-pub partial_more : (bytes : List ℕ) (rows : List (List ℕ)) (n : ℕ) (sums scaled : List ℕ) → sums ≡ map (partial bytes rows n) (range_with_len 0 16)
-    → scaled ≡ map (λ x. field_product (get_or bytes n 0) x) (get_or rows n []) → length (get_or rows n []) ≡ 16 → zip2 bit_xor sums scaled ≡ map (partial bytes rows (n + 1)) (range_with_len 0 16)
-partial_more bytes rows n sums scaled es et long =
+pub first_more : (bytes : List ℕ) (rows : List (List ℕ)) (n : ℕ) (sums scaled : List ℕ) → sums ≡ combination_of_first bytes rows n
+    → scaled ≡ map (λ x. field_product (get_or bytes n 0) x) (get_or rows n []) → length (get_or rows n []) ≡ 16 → zip2 bit_xor sums scaled ≡ combination_of_first bytes rows (n + 1)
+unfolding combination_of_first
+first_more bytes rows n sums scaled es et long =
     let range : length (range_with_len 0 16) ≡ 16 = refl in
     let length_sums : length sums ≡ 16 = ap length es in
     let length_scaled : length scaled ≡ 16 = ap length et ∙ length-map (get_or rows n []) (λ x. field_product (get_or bytes n 0) x) ∙ long in
@@ -106,9 +107,9 @@ partial_more bytes rows n sums scaled es et long =
     ∙ ap (λ m. partial bytes rows m j) (let e : suc n ≡ n + 1 = omega arith in e)
     ∙ sym (get_or-map-range_with_len (partial bytes rows (n + 1)) 0 16 j j 0 lt (omega arith)))
 
-pub partial_all : (bytes : List ℕ) (rows : List (List ℕ)) (n : ℕ) (sums : List ℕ) → n ≡ length bytes → sums ≡ map (partial bytes rows n) (range_with_len 0 16) → sums ≡ combination_of bytes rows
-unfolding combination_of combination
-partial_all bytes rows n sums e h = h ∙ ap (λ m. map (partial bytes rows m) (range_with_len 0 16)) e
+pub first_all : (bytes : List ℕ) (rows : List (List ℕ)) (n : ℕ) (sums : List ℕ) → n ≡ length bytes → sums ≡ combination_of_first bytes rows n → sums ≡ combination_of bytes rows
+unfolding combination_of combination combination_of_first
+first_all bytes rows n sums e h = h ∙ ap (λ m. map (partial bytes rows m) (range_with_len 0 16)) e
 
 -- ---- sums of vectors
 

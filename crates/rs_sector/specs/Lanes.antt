@@ -16,6 +16,10 @@ combination bytes rows j = sum_below (λ k. field_product (slice_index bytes k) 
 unfoldable pub combination_of : List ℕ → List (List ℕ) → List ℕ
 combination_of bytes rows = map (combination bytes rows) (range_with_len 0 16)
 
+-- the 16 lanes of the sum of the first n rows, each times its byte
+unfoldable pub combination_of_first : List ℕ → List (List ℕ) → ℕ → List ℕ
+combination_of_first bytes rows n = map (λ j. sum_below (λ k. field_product (slice_index bytes k) (entry rows k j)) n) (range_with_len 0 16)
+
 -- row k has the powers 0 to 15 of the point of place k
 abbrev pub HoldPowers : List (List ℕ) → Type 0
 HoldPowers rows = (k j : ℕ) → k < 148 → j < 16 → entry rows k j ≡ power (point k) j

@@ -1,5 +1,6 @@
 //! The decoders: the codeword in reach, or none.
 ghost use Rattle.std.specs.Prelude.{◌≡◌, ◌≤◌, List, ℕ, IfSome};
+ghost use Rattle.rs_sector.specs.Code.{syndromes_of};
 ghost use Rattle.rs_sector.specs.Decoding.{differing_outside, IsNear, IsNearErased};
 
 use crate::decode::{corrected, count};
@@ -17,7 +18,18 @@ pub fn nearest(word: &[u8; 148], radius: u8) -> Option<[u8; 148]>
     if sums == [0; 16] {
         return Some(*word);
     }
-    let found = corrected(word, &NONE_ERASED, &sums);
+    mended(word, radius, &sums)
+}
+
+// The codeword in reach of a word that has these sums; apart, so that a clean word costs no more than its check.
+#[inline(never)]
+fn mended(word: &[u8; 148], radius: u8, sums: &[u8; 16]) -> Option<[u8; 148]>
+    requires low { radius ≤ 8 }
+    requires sums { sums.now ≡ syndromes_of word.now }
+    ensures some { IfSome result (IsNear word.now radius) }
+    ensures none { (codeword : List ℕ) → IsNear word.now radius codeword → result ≡ Some codeword }
+{
+    let found = corrected(word, &NONE_ERASED, sums);
     if is_codeword(&found) && wrong_places(word, &found, &NONE_ERASED) <= radius as usize {
         Some(found)
     } else {

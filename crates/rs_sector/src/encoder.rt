@@ -1,5 +1,5 @@
 //! Codewords: the syndromes, the test and the encoder.
-ghost use Rattle.std.specs.Prelude.{◌≡◌, ◌↔◌, IsTrue};
+ghost use Rattle.std.specs.Prelude.{◌≡◌, ◌↔◌, ◌++◌, IsTrue};
 ghost use Rattle.rs_sector.specs.Code.{syndromes_of, AllAreCodewords, AllEncode, Encodes, IsCodeword};
 
 use crate::lanes::{check_rows, combined, point_powers};
@@ -9,10 +9,16 @@ pub fn encode(plain: &[u8; 132]) -> [u8; 148]
     ensures { Encodes plain.now result }
 {
     let sums = combined(plain, point_powers());
-    let checks = combined(&sums, check_rows());
+    joined(plain, &combined(&sums, check_rows()))
+}
+
+// The data with the check bytes behind them.
+fn joined(plain: &[u8; 132], checks: &[u8; 16]) -> [u8; 148]
+    ensures { result ≡ plain.now ++ checks.now }
+{
     let mut word = [0; 148];
     word[..132].copy_from_slice(plain);
-    word[132..].copy_from_slice(&checks);
+    word[132..].copy_from_slice(checks);
     word
 }
 
@@ -29,6 +35,7 @@ pub fn encode_sector(plain: &[[u8; 132]; 4]) -> [[u8; 148]; 4]
 }
 
 /// The values of the word's polynomial at `2^0` to `2^15`, which are 0 for a codeword.
+#[inline(always)]
 pub fn syndromes(word: &[u8; 148]) -> [u8; 16]
     ensures { result ≡ syndromes_of word.now }
 {

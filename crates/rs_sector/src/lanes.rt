@@ -1,28 +1,50 @@
 //! Sums of products in 16 lanes.
-ghost use Rattle.std.specs.Prelude.{◌≡◌, ◌≤◌, length, map};
+ghost use Rattle.std.specs.Prelude.{◌≡◌, ◌+◌, ◌*◌, ◌/◌, ◌<◌, ◌≤◌, length, map};
 ghost use Rattle.rs_sector.specs.Field.{field_product};
-ghost use Rattle.rs_sector.specs.Lanes.{combination_of, AddsScaled, Eliminates, HoldBlocks, HoldChecks, HoldPowers};
+ghost use Rattle.rs_sector.specs.Lanes.{combination_of, combination_of_first, AddsScaled, Eliminates, HoldBlocks, HoldChecks, HoldPowers};
 
 use crate::field::{high_products, low_products};
 use crate::tables::rows::{BLOCK_POWERS, CHECKS, POINT_POWERS};
 use std::simd::prelude::*;
 
-// The sum of the rows, each times its byte; two rows a turn, since a turn's own steps cost as much as a row's.
+// The sum of the rows, each times its byte.
 #[inline(always)]
 pub(crate) fn combined(bytes: &[u8], rows: &[[u8; 16]]) -> [u8; 16]
     requires { length bytes.now ≤ length rows.now }
     ensures { result ≡ combination_of bytes.now rows.now }
 {
-    let mut sums = u8x16::splat(0);
-    let pairs = bytes.len() / 2;
-    for k in 0..pairs {
-        sums ^= scaled(bytes[2 * k], u8x16::from_array(rows[2 * k]));
-        sums ^= scaled(bytes[2 * k + 1], u8x16::from_array(rows[2 * k + 1]));
-    }
-    if 2 * pairs < bytes.len() {
-        sums ^= scaled(bytes[2 * pairs], u8x16::from_array(rows[2 * pairs]));
+    let mut sums = whole_fours(bytes, rows);
+    for k in bytes.len() / 4 * 4..bytes.len() {
+        sums = with_row(sums, bytes, rows, k);
     }
     sums.to_array()
+}
+
+// The sum of the rows up to the last whole four; four a turn, since a turn's own steps cost as much as a row's.
+#[inline(always)]
+fn whole_fours(bytes: &[u8], rows: &[[u8; 16]]) -> u8x16
+    requires { length bytes.now ≤ length rows.now }
+    ensures { result ≡ combination_of_first bytes.now rows.now (length bytes.now / 4 * 4) }
+{
+    let mut sums = u8x16::splat(0);
+    for k in 0..bytes.len() / 4 {
+        sums = with_row(sums, bytes, rows, 4 * k);
+        sums = with_row(sums, bytes, rows, 4 * k + 1);
+        sums = with_row(sums, bytes, rows, 4 * k + 2);
+        sums = with_row(sums, bytes, rows, 4 * k + 3);
+    }
+    sums
+}
+
+// The sum of the first rows with the next one added, times its byte.
+#[inline(always)]
+fn with_row(sums: u8x16, bytes: &[u8], rows: &[[u8; 16]], k: usize) -> u8x16
+    requires byte { k < length bytes.now }
+    requires rows { length bytes.now ≤ length rows.now }
+    requires sums { sums ≡ combination_of_first bytes.now rows.now k }
+    ensures { result ≡ combination_of_first bytes.now rows.now (k + 1) }
+{
+    sums ^ scaled(bytes[k], u8x16::from_array(rows[k]))
 }
 
 #[inline(always)]
