@@ -1,3 +1,10 @@
 pub mod Examples
 pub mod SpareBounds
 pub mod ReadBack
+pub mod RecoveryExamples
+pub mod Rule
+pub mod SafeRecords
+pub mod SafeReads
+pub mod SafeWrites
+pub mod SafeExamples
+pub mod SafeChains

@@ -1,2 +1,6 @@
 pub mod MapRecord
 pub mod Laws
+pub mod Recovery
+pub mod Reading
+pub mod SafeMaps
+pub mod SafetyLaws

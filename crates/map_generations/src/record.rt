@@ -2,7 +2,7 @@ ghost use Rattle.std.specs.Prelude.{◌≡◌, ◌+◌, ◌*◌, ◌<◌, ◌≤
 ghost use Rattle.std.specs.List.{flat_map};
 ghost use Rattle.map_generations.specs.MapRecord.{map_record as record_of_map};
 ghost use Rattle.map_generations.specs.Laws.{RecordsTellMaps};
-ghost use Rattle.map_generations.specs.MapRecord.{record_bytes, measures, sector_bytes, pair_bytes, with_zeros};
+ghost use Rattle.map_generations.specs.MapRecord.{record_bytes, record_sector as sector_of, measures, sector_bytes, pair_bytes, with_zeros};
 
 use arrayvec::ArrayVec;
 use disk_base::{BLOCK_LENGTH, Block, Payload, Psn};
@@ -18,7 +18,7 @@ pub const COPIES: u8 = 2;
 pub const RECORD_VERSION: u8 = 1;
 
 // Pairs of a record.
-const RECORD_PAIRS: usize = 64;
+pub(crate) const RECORD_PAIRS: usize = 64;
 
 /// What the sector of a record carries, in a copy of the map in its slot.
 pub fn map_record(map: &Map, copy: u8, index: u8) -> Payload
@@ -26,15 +26,24 @@ pub fn map_record(map: &Map, copy: u8, index: u8) -> Payload
     requires index { index < MAP_RECORDS }
     ensures { result ≡ record_of_map map.now copy index }
 {
-    let records = u32::from(MAP_RECORDS);
-    let of_slot = u32::from(COPIES) * records * u32::from(map.slot());
-    let p = Psn(of_slot + records * u32::from(copy) + u32::from(index));
+    let p = record_sector(map.slot(), copy, index);
     let block = record_block(map, index);
     Payload::map_record(p, index, map.state(), RECORD_VERSION, map.number(), &block)
 }
 
+// The sector that holds a record.
+pub(crate) fn record_sector(slot: u8, copy: u8, index: u8) -> Psn
+    requires copy { copy < COPIES }
+    requires index { index < MAP_RECORDS }
+    ensures { result ≡ sector_of slot copy index }
+{
+    let records = u32::from(MAP_RECORDS);
+    let of_slot = u32::from(COPIES) * records * u32::from(slot);
+    Psn(of_slot + records * u32::from(copy) + u32::from(index))
+}
+
 // The data of a record.
-fn record_block(map: &Map, index: u8) -> Block
+pub(crate) fn record_block(map: &Map, index: u8) -> Block
     requires { index < MAP_RECORDS }
     ensures { result ≡ record_bytes map.now index }
 {

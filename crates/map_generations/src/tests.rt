@@ -1,3 +1,5 @@
+mod recovery;
+
 use super::*;
 use disk_base::{Payload, Psn};
 use geometry_map::{Map, Pair, Size};
