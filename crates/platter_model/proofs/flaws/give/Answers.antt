@@ -1,0 +1,5 @@
+use Rattle.platter_model.proofs.Lined.{give_is}
+use Rattle.platter_model.proofs.flaws.give.Goals as goal
+
+pub returns-clause-given : goal.returns-clause-given
+returns-clause-given c = give_is c.args.p _ c.args.attempt _ c.index-sector.result.now c.line_up.new.order.items _ c.requires.within c.index-sector.ensures c.requires.kept.are_sectors c.line_up.ensures.all c.apply.ensures.under

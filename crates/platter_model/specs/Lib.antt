@@ -1,0 +1,6 @@
+pub mod Sector
+pub mod Given
+pub mod TrueLog
+pub mod State
+pub mod Places
+pub mod Laws

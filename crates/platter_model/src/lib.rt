@@ -1,0 +1,25 @@
+//! The platter: sectors that samples are written to and read from, with damage, write faults and power cuts. It is its list of
+//! operations: what a sector gives is read off that list.
+#![tactic(auto)]
+
+mod answer;
+mod damage;
+mod flaws;
+mod found;
+mod kept;
+mod law;
+mod op;
+mod platter;
+mod sector;
+#[cfg(test)]
+mod tests;
+mod world;
+
+pub use answer::{FetchAnswer, WriteAnswer};
+pub use damage::{Arming, Attempt, Damage, Effect, Lasting, Left, Tear};
+pub use law::{
+    nothing_is_read_where_nothing_is_meant, sectors_give_one_thing, what_is_read_may_be_noted,
+};
+pub use op::{Op, Ops};
+pub use platter::Platter;
+pub use world::World;
