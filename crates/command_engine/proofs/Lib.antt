@@ -1,0 +1,12 @@
+mod Stages
+mod Fit
+mod Owes
+mod Keeps
+mod Nearer
+mod Endings
+mod Answering
+mod Beginnings
+mod Ranges
+mod Advance
+mod Nothing
+mod CourseExamples

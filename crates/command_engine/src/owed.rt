@@ -1,0 +1,100 @@
+ghost use Rattle.std.specs.Prelude.{◌≡◌, ◌≤◌, ◌^◌, true, false};
+ghost use Rattle.cdb_reader.specs.declared.plan.Plan.TheVariants as plan;
+ghost use Rattle.cdb_reader.specs.Plan.{reading_from};
+ghost use Rattle.command_engine.specs.Standing.{IsWithin};
+ghost use Rattle.command_engine.specs.Owed.{plan_owed};
+ghost use Rattle.command_engine.specs.Answers.{owed_after};
+
+use crate::Answer;
+use cdb_reader::{Reading, Syncing, Writing};
+use disk_base::Value;
+use sense_data::Reply;
+
+/// What a command still owes.
+#[derive(Debug, Drop)]
+pub enum Owed {
+    /// This reply alone.
+    Reply(Reply),
+    /// Bytes that aren't blocks, and then this reply.
+    Page(Reply),
+    /// UNRECOVERED READ ERROR at this block.
+    Unread(u64),
+    Reading(Reading),
+    Writing(Writing),
+    Syncing(Syncing),
+}
+
+impl Owed {
+    // Goes on with an answer; `lost`: the last stage failed with it.
+    pub(crate) fn advance(&mut self, answer: &Answer, lost: bool)
+        requires { IsWithin (plan_owed self.old) }
+        ensures { plan_owed self.new ≡ owed_after (plan_owed self.old) lost answer.now }
+    {
+        match self {
+            Owed::Reply(_) | Owed::Unread(_) => {}
+            Owed::Page(reply) => {
+                if let Answer::Paged = answer {
+                    *self = Owed::Reply(*reply);
+                }
+            }
+            Owed::Reading(reading) => *self = after_reading(*reading, answer, lost),
+            Owed::Writing(writing) => {
+                if let Answer::Put | Answer::Hardened = answer {
+                    writing.at += 1;
+                    writing.owes_harden = false;
+                    if writing.verifies && writing.at == writing.end {
+                        *self = Owed::Reading(verification_of(writing));
+                    }
+                }
+            }
+            Owed::Syncing(syncing) => go_on_syncing(syncing, answer),
+        }
+    }
+}
+
+// A read after an answer.
+fn after_reading(reading: Reading, answer: &Answer, lost: bool) -> Owed
+    requires { reading.at ≤ 2 ^ 32 }
+    ensures { plan_owed result ≡ owed_after (plan.Reading reading) lost answer.now }
+{
+    match answer {
+        Answer::Got(Value::Data(_)) => Owed::Reading(Reading {
+            at: reading.at + 1,
+            hardened: false,
+            ..reading
+        }),
+        Answer::Got(Value::Lost) => Owed::Unread(reading.at),
+        Answer::Missed if lost => Owed::Unread(reading.at),
+        Answer::Hardened => Owed::Reading(Reading {
+            hardened: true,
+            ..reading
+        }),
+        _ => Owed::Reading(reading),
+    }
+}
+
+// All blocks of a write, to be read.
+fn verification_of(writing: &Writing) -> Reading
+    ensures { plan.Reading result ≡ reading_from writing.now.from writing.now.end true writing.now.reports }
+{
+    Reading {
+        at: writing.from,
+        end: writing.end,
+        through: true,
+        reports: writing.reports,
+        hardened: false,
+    }
+}
+
+// A sync after an answer.
+fn go_on_syncing(syncing: &mut Syncing, answer: &Answer)
+    requires { syncing.old.at ≤ 2 ^ 32 }
+    ensures { plan.Syncing syncing.new ≡ owed_after (plan.Syncing syncing.old) false answer.now }
+{
+    match answer {
+        Answer::Hardened => syncing.at += 1,
+        Answer::NextDirty(None) => syncing.at = syncing.end,
+        Answer::NextDirty(Some(b)) => syncing.at = b.0,
+        _ => {}
+    }
+}
