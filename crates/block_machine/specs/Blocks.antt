@@ -1,16 +1,14 @@
--- The array of blocks that a history is about.
-use Rattle.std.specs.Prelude.{ℕ, ◌-◌, ◌==◌, Bool, true, false, if◌then◌else◌, List, [], ◌∷◌, length, replicate, slice_get}
-use Rattle.std.specs.List.{list_any}
+-- The array of blocks that a history is about: what each may hold, and which entries it allows.
+use Rattle.std.specs.Prelude.{ℕ, ◌-◌, ◌==◌, ◌&&◌, Bool, true, false, not, nat_lt, nat_le, if◌then◌else◌, List, [], ◌∷◌, ◌++◌, length, replicate, filter, slice_get, Option}
+use Rattle.std.specs.List.{list_any, list_all, range_with_len}
 use Rattle.std.specs.Option.{option_map_or}
 use Rattle.std.specs.Str.{bytes_eq}
 use Rattle.disk_base.specs.At.{put_at}
 use Rattle.disk_base.specs.declared.block.Value.{Value}
 use Rattle.disk_base.specs.declared.block.Value.TheVariants.{Data, Lost}
-
--- the values that a block may have on the medium, and those put since it was last hardened, oldest first
-pub record BlockState : Type 0 where
-  pub base : List Value
-  pub newer : List Value
+use Rattle.block_machine.specs.declared.array.BlockState.{BlockState}
+use Rattle.block_machine.specs.declared.entry.Entry.{Entry}
+use Rattle.block_machine.specs.declared.entry.Entry.TheVariants.{Get, Put, Harden, Passed, GiveUp, Cut}
 
 -- the state of each block, by its address
 abbrev pub Blocks : Type 0
@@ -20,9 +18,13 @@ Blocks = ℕ → BlockState
 abbrev pub zeros : Value
 zeros = Data (replicate 512 0)
 
+-- a block that has this value on the medium, and no newer one
+abbrev pub hardened_with : Value → BlockState
+hardened_with v = record { base = v ∷ []; newer = [] }
+
 -- at first each block is zeros, and hardened
 abbrev pub blocks_at_start : Blocks
-blocks_at_start b = record { base = zeros ∷ []; newer = [] }
+blocks_at_start b = hardened_with zeros
 
 abbrev pub same_value : Value → Value → Bool
 same_value (Data a) (Data b) = bytes_eq a b
@@ -32,22 +34,72 @@ same_value Lost (Data b) = false
 
 -- a block is dirty where a value was put since it was last hardened
 abbrev pub is_dirty : BlockState → Bool
-is_dirty s = if length s.newer == 0 then false else true
+is_dirty s = not (length s.newer == 0)
 
--- the newest value is this
-abbrev pub is_newest : Value → BlockState → Bool
-is_newest v s = option_map_or (same_value v) (slice_get s.newer (length s.newer - 1)) false
+-- the newest value that was put since
+abbrev pub newest : BlockState → Option Value
+newest s = slice_get s.newer (length s.newer - 1)
 
--- what may be got: the newest value; where there is none, a value of base, or that the block is lost
+-- the values that a block may have on the medium, a power cut and a broken write included
+abbrev pub allowed : BlockState → List Value
+allowed s = if is_dirty s then s.base ++ s.newer ++ Lost ∷ [] else s.base
+
+-- what may be got: the newest value; where there is none, a value of base, or that the block can't be read
 abbrev pub may_get : BlockState → Value → Bool
-may_get s (Data d) = if is_dirty s then is_newest (Data d) s else list_any (same_value (Data d)) s.base
-may_get s Lost = if is_dirty s then false else true
+may_get s (Data d) = if is_dirty s then option_map_or (same_value (Data d)) (newest s) false else list_any (same_value (Data d)) s.base
+may_get s Lost = not (is_dirty s)
 
--- what was got once from the medium is what the block has there
+-- what was got from the medium is what the block has there
 abbrev pub after_get : BlockState → Value → BlockState
-after_get s (Data d) = if is_dirty s then s else record { base = Data d ∷ []; newer = [] }
+after_get s (Data d) = if is_dirty s then s else hardened_with (Data d)
 after_get s Lost = s
 
--- the blocks after a value of one was got
-abbrev pub blocks_after_get : Blocks → ℕ → Value → Blocks
-blocks_after_get blocks b v = put_at b (after_get (blocks b) v) blocks
+-- a value is put
+abbrev pub after_put : BlockState → Value → BlockState
+after_put s v = record s { newer = s.newer ++ v ∷ [] }
+
+-- the newest value comes to the medium
+abbrev pub after_harden : BlockState → BlockState
+after_harden s = option_map_or hardened_with (newest s) s
+
+-- the power goes off: a dirty block has any of its values, or is lost
+abbrev pub after_cut : BlockState → BlockState
+after_cut s = if is_dirty s then record { base = allowed s; newer = [] } else s
+
+-- the blocks after an entry, whether it is lawful or not; entries not named here change no block
+abbrev pub blocks_after : Blocks → Entry → Blocks
+blocks_after blocks (Get c b v) = put_at b.0 (after_get (blocks b.0) v) blocks
+blocks_after blocks (Put c b v) = put_at b.0 (after_put (blocks b.0) (Data v)) blocks
+blocks_after blocks (GiveUp b) = put_at b.0 (after_put (blocks b.0) Lost) blocks
+blocks_after blocks (Harden who b) = put_at b.0 (after_harden (blocks b.0)) blocks
+blocks_after blocks Cut = λ b. after_cut (blocks b)
+blocks_after blocks other = blocks
+
+-- no block from one address to below another is dirty
+abbrev pub none_dirty : Blocks → ℕ → ℕ → Bool
+none_dirty blocks from to = list_all (λ b. not (is_dirty (blocks b))) (range_with_len from (to - from))
+
+-- whether the blocks allow an entry, at a capacity
+abbrev pub block_lawful : ℕ → Blocks → Entry → Bool
+block_lawful capacity blocks (Get c b v) = nat_lt b.0 capacity && may_get (blocks b.0) v
+block_lawful capacity blocks (Put c b v) = nat_lt b.0 capacity
+block_lawful capacity blocks (GiveUp b) = nat_lt b.0 capacity && not (is_dirty (blocks b.0))
+block_lawful capacity blocks (Harden who b) = nat_lt b.0 capacity && is_dirty (blocks b.0)
+block_lawful capacity blocks (Passed c from to) = nat_le to.0 capacity && none_dirty blocks from.0 to.0
+block_lawful capacity blocks other = true
+
+-- addresses with this one at their end, unless it is among them
+abbrev pub with_address : ℕ → List ℕ → List ℕ
+with_address b addresses = if list_any (λ a. a == b) addresses then addresses else addresses ++ b ∷ []
+
+-- addresses without this one
+abbrev pub without_address : ℕ → List ℕ → List ℕ
+without_address b addresses = filter (λ a. not (a == b)) addresses
+
+-- the addresses of the dirty blocks after an entry; the block that is dirty for the longest time comes first
+abbrev pub dirty_after : List ℕ → Entry → List ℕ
+dirty_after dirty (Put c b v) = with_address b.0 dirty
+dirty_after dirty (GiveUp b) = with_address b.0 dirty
+dirty_after dirty (Harden who b) = without_address b.0 dirty
+dirty_after dirty Cut = []
+dirty_after dirty other = dirty

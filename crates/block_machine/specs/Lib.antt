@@ -1,3 +1,13 @@
 pub mod Blocks
-pub mod Plan
+pub mod Scan
+pub mod Attentions
+pub mod Settings
+pub mod DriveOnly
+pub mod State
+pub mod Plans
+pub mod Deeds
+pub mod Steps
+pub mod Entries
+pub mod Turns
 pub mod History
+pub mod Laws

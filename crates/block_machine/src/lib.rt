@@ -1,7 +1,17 @@
 //! What the drive promises: histories of an array of blocks, with no sector, cache or spare in them. Here stand the
-//! turns of a history; specs/ says which histories are legal. Described so far are SIMPLE commands that read.
+//! turns of a history and what they are made of; specs/ says which histories are legal.
 #![tactic(auto)]
 
+mod array;
+mod entry;
+mod laws;
 mod turn;
 
-pub use turn::{Entries, Entry, Label, Turn, Turns};
+pub use array::{Array, BlockState, Values};
+pub use entry::{Entries, Entry, Recovered, Seen, Who};
+pub use laws::{
+    beginnings_are_legal, commands_are_accounted_for, first_read_settles,
+    forced_writes_are_hardened, hardened_values_stay, reads_get_each_block_once,
+    reads_give_hardened_or_newer, reads_give_what_was_put_last, syncs_find_each_block_hardened,
+};
+pub use turn::{Label, Turn, Turns};

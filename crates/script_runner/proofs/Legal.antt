@@ -1,11 +1,12 @@
 -- The turns that carry out a script that is served are a legal history.
-use Rattle.std.proofs.Common.{◌≡◌, ℕ, ◌+◌, ◌<◌, Bool, true, false, nat_eq, nat_lt, nat_le, List, [], ◌∷◌, refl, arith, eq-eqb}
+use Rattle.std.proofs.Common.{◌≡◌, ℕ, ◌+◌, ◌<◌, Bool, true, false, nat_eq, nat_lt, List, [], ◌∷◌, refl, arith, eq-eqb}
 use Rattle.std.specs.Prelude.{IsTrue, ◌&&◌}
 use Rattle.std.specs.Int.{w32, from_be_bytes}
-use Rattle.std.proofs.lemmas.Bool.{eqb-true, ltb-true, lt-ltb, le-leb}
+use Rattle.std.proofs.lemmas.Bool.{eqb-true, ltb-true, lt-ltb, le-ltb}
 use Rattle.disk_base.specs.declared.address.Tag.{Tag}
 use Rattle.disk_base.specs.declared.command.Attribute.TheVariants.{Simple, Ordered, Head}
 use Rattle.disk_base.specs.declared.command.DataOut.{DataOut}
+use Rattle.cdb_reader.specs.Operation.{operation_of}
 use Rattle.block_machine.specs.declared.turn.Turn.{Turn}
 use Rattle.block_machine.specs.History.{legal_and_finished}
 use Rattle.script_runner.specs.declared.script.Line.{Line}
@@ -14,17 +15,17 @@ use Rattle.script_runner.specs.Script.{capacity, is_served}
 use Rattle.script_runner.specs.Turns.{command_turns, turns_for, AreServed, IsServedLine}
 
 -- the history of one read of a block of the array
-read_is_legal : (i : ℕ) (t : Tag) (a b c d group : ℕ) (sent : DataOut) → from_be_bytes w32 (a ∷ b ∷ c ∷ d ∷ []) < 912
-    → legal_and_finished capacity (command_turns (Command i t Simple (0x28 ∷ 0 ∷ a ∷ b ∷ c ∷ d ∷ group ∷ 0 ∷ 1 ∷ 0 ∷ []) sent)) ≡ true
-read_is_legal i t a b c d group sent lt =
+read_is_legal : (t : Tag) (a b c d group : ℕ) (sent : DataOut) → from_be_bytes w32 (a ∷ b ∷ c ∷ d ∷ []) < 912
+    → legal_and_finished capacity (command_turns (Command 1 t Simple (0x28 ∷ 0 ∷ a ∷ b ∷ c ∷ d ∷ group ∷ 0 ∷ 1 ∷ 0 ∷ []) sent)) ≡ true
+unfolding operation_of
+read_is_legal t a b c d group sent lt =
     let at : ℕ = from_be_bytes w32 (a ∷ b ∷ c ∷ d ∷ []) in
-    let initiator : nat_eq i i ≡ true = eq-eqb i i refl in
-    let within : nat_le (at + 1) 912 ≡ true = le-leb (at + 1) 912 (omega arith) in
+    let within : nat_lt 912 (at + 1) ≡ false = le-ltb 912 (at + 1) (omega arith) in
     let below : nat_lt at 912 ≡ true = lt-ltb at 912 lt in
     let same : nat_eq at at ≡ true = eq-eqb at at refl in
     let before : nat_lt at (at + 1) ≡ true = lt-ltb at (at + 1) (omega arith) in
     let over : nat_eq (at + 1) (at + 1) ≡ true = eq-eqb (at + 1) (at + 1) refl in
-    simp (initiator, within, below, same, before, over)
+    simp (within, below, same, before, over)
 
 -- both sides of a test that passes
 both : (x y : Bool) → (x && y) ≡ true → (x ≡ true) × (y ≡ true)
@@ -32,10 +33,10 @@ both true y h = (refl, h)
 both false y h = absurd (cc)
 
 -- the same with the bytes as they are tested
-tested_is_legal : (i : ℕ) (t : Tag) (code flags a b c d group high low control : ℕ) (sent : DataOut)
+tested_is_legal : (t : Tag) (code flags a b c d group high low control : ℕ) (sent : DataOut)
     → is_served (code ∷ flags ∷ a ∷ b ∷ c ∷ d ∷ group ∷ high ∷ low ∷ control ∷ []) ≡ true
-    → legal_and_finished capacity (command_turns (Command i t Simple (code ∷ flags ∷ a ∷ b ∷ c ∷ d ∷ group ∷ high ∷ low ∷ control ∷ []) sent)) ≡ true
-tested_is_legal i t code flags a b c d group high low control sent h =
+    → legal_and_finished capacity (command_turns (Command 1 t Simple (code ∷ flags ∷ a ∷ b ∷ c ∷ d ∷ group ∷ high ∷ low ∷ control ∷ []) sent)) ≡ true
+tested_is_legal t code flags a b c d group high low control sent h =
     let p6 = both _ _ h in
     let p5 = both _ _ p6.0 in
     let p4 = both _ _ p5.0 in
@@ -48,15 +49,16 @@ tested_is_legal i t code flags a b c d group high low control sent h =
     let within : from_be_bytes w32 (a ∷ b ∷ c ∷ d ∷ []) < 912 = ltb-true _ _ p2.1 in
     let is_flags : flags ≡ 0 = eqb-true _ _ p1.1 in
     let is_code : code ≡ 0x28 = eqb-true _ _ p1.0 in
-    rw (is_code, is_flags, is_high, is_low, is_control) (read_is_legal i t a b c d group sent within)
+    rw (is_code, is_flags, is_high, is_low, is_control) (read_is_legal t a b c d group sent within)
 
 -- a line that is served
 line_is_legal : (line : Line) → IsServedLine line → legal_and_finished capacity (command_turns line) ≡ true
 line_is_legal Go h = refl
-line_is_legal (Command i t Simple (code ∷ flags ∷ a ∷ b ∷ c ∷ d ∷ group ∷ high ∷ low ∷ control ∷ []) sent) h = tested_is_legal i t code flags a b c d group high low control sent h.1
-line_is_legal (Command i t Simple other sent) h = absurd (cc h.1)
-line_is_legal (Command i t Ordered cdb sent) h = absurd (cc h.0)
-line_is_legal (Command i t Head cdb sent) h = absurd (cc h.0)
+line_is_legal (Command i t Simple (code ∷ flags ∷ a ∷ b ∷ c ∷ d ∷ group ∷ high ∷ low ∷ control ∷ []) sent) h =
+    rw h.0 (tested_is_legal t code flags a b c d group high low control sent h.2)
+line_is_legal (Command i t Simple other sent) h = absurd (cc h.2)
+line_is_legal (Command i t Ordered cdb sent) h = absurd (cc h.1)
+line_is_legal (Command i t Head cdb sent) h = absurd (cc h.1)
 
 -- lines that are served
 pub lines_are_legal : (lines : List Line) → AreServed lines → IsTrue (legal_and_finished capacity (turns_for lines))

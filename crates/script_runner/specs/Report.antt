@@ -1,5 +1,5 @@
 -- The text of a report.
-use Rattle.std.specs.Prelude.{ℕ, ◌+◌, ◌==◌, Bool, true, false, if◌then◌else◌, List, [], ◌∷◌, ◌++◌, codes, decimal, sum_by, count_by, slice_index, length}
+use Rattle.std.specs.Prelude.{ℕ, ◌+◌, ◌==◌, Bool, true, false, if◌then◌else◌, Option, Some, None, List, [], ◌∷◌, ◌++◌, codes, decimal, sum_by, count_by, slice_index, length}
 use Rattle.std.specs.List.{list_all}
 use Rattle.hex.specs.Hex.{encode_upper}
 use Rattle.disk_base.specs.declared.block.Value.{Value}
@@ -10,8 +10,10 @@ use Rattle.disk_base.specs.declared.command.DataOut.{DataOut}
 use Rattle.disk_base.specs.declared.command.DataOut.TheVariants.{Nothing, Fill, Given}
 use Rattle.block_machine.specs.declared.turn.Label.{Label}
 use Rattle.block_machine.specs.declared.turn.Label.TheVariants.{Arrive, Work}
-use Rattle.block_machine.specs.declared.turn.Entry.{Entry}
-use Rattle.block_machine.specs.declared.turn.Entry.TheVariants.{Arrived, Started, Get, Ended}
+use Rattle.sense_data.specs.declared.sense.Sense.{Sense}
+use Rattle.sense_data.specs.Sense.{sense_bytes}
+use Rattle.block_machine.specs.declared.entry.Entry.{Entry}
+use Rattle.block_machine.specs.declared.entry.Entry.TheVariants.{Arrived, Started, Get, Ended}
 use Rattle.block_machine.specs.declared.turn.Turn.{Turn}
 
 -- a text and words behind it, each after a space
@@ -42,16 +44,25 @@ abbrev pub value_word : Value → List ℕ
 value_word (Data block) = block_word block
 value_word Lost = codes "bad"
 
+-- sense data, where there are some
+abbrev pub sense_words : Option Sense → List (List ℕ)
+sense_words None = []
+sense_words (Some sense) = encode_upper (sense_bytes sense) ∷ []
+
+-- an entry; those that no served script leads to have no words yet
 abbrev pub entry_words : Entry → List (List ℕ)
 entry_words (Arrived c i t a cdb sent) =
     codes "in" ∷ decimal c ∷ decimal i ∷ decimal t.0 ∷ attribute_word a ∷ encode_upper cdb ∷ sent_word sent ∷ []
 entry_words (Started c) = codes "start" ∷ decimal c ∷ []
 entry_words (Get c b v) = codes "get" ∷ decimal c ∷ decimal b.0 ∷ value_word v ∷ []
-entry_words (Ended c status) = codes "end" ∷ decimal c ∷ byte_word status ∷ []
+entry_words (Ended c reply) = codes "end" ∷ decimal c ∷ byte_word reply.status ∷ sense_words reply.sense
+entry_words other = []
 
+-- a label; those that no served script leads to have no words yet
 abbrev pub label_words : Label → List (List ℕ)
 label_words (Arrive i) = codes "arrive" ∷ decimal i ∷ []
 label_words (Work c) = codes "work" ∷ decimal c ∷ []
+label_words other = []
 
 -- a text and entries behind it, each after ` >`
 abbrev pub with_entries : List ℕ → List Entry → List ℕ
@@ -69,16 +80,12 @@ turn_lines n (turn ∷ turns) = turn_line n turn ++ turn_lines (n + 1) turns
 
 abbrev pub is_arrival : Entry → Bool
 is_arrival (Arrived c i t a cdb sent) = true
-is_arrival (Started c) = false
-is_arrival (Get c b v) = false
-is_arrival (Ended c status) = false
+is_arrival other = false
 
 -- an end with this status
 abbrev pub is_end : ℕ → Entry → Bool
-is_end status (Arrived c i t a cdb sent) = false
-is_end status (Started c) = false
-is_end status (Get c b v) = false
-is_end status (Ended c s) = s == status
+is_end status (Ended c reply) = reply.status == status
+is_end status other = false
 
 -- how many entries of all turns pass a test
 abbrev pub entries_that : (Entry → Bool) → List Turn → ℕ

@@ -1,13 +1,15 @@
 -- The turns that carry a script out.
-use Rattle.std.specs.Prelude.{ℕ, IsTrue, List, [], ◌∷◌, slice_range}
+use Rattle.std.specs.Prelude.{◌≡◌, ℕ, Bool, true, false, IsTrue, List, [], ◌∷◌, slice_range}
 use Rattle.std.specs.Int.{w32, from_be_bytes}
 use Rattle.block_machine.specs.declared.turn.Label.{Label}
 use Rattle.block_machine.specs.declared.turn.Label.TheVariants.{Arrive, Work}
-use Rattle.block_machine.specs.declared.turn.Entry.{Entry}
-use Rattle.block_machine.specs.declared.turn.Entry.TheVariants.{Arrived, Started, Get, Ended}
+use Rattle.block_machine.specs.declared.entry.Entry.{Entry}
+use Rattle.block_machine.specs.declared.entry.Entry.TheVariants.{Arrived, Started, Get, Ended}
 use Rattle.block_machine.specs.declared.turn.Turn.{Turn}
 use Rattle.block_machine.specs.Blocks.{zeros}
-use Rattle.block_machine.specs.History.{is_simple}
+use Rattle.cdb_reader.specs.Replies.{good}
+use Rattle.disk_base.specs.declared.command.Attribute.{Attribute}
+use Rattle.disk_base.specs.declared.command.Attribute.TheVariants.{Simple, Ordered, Head}
 use Rattle.script_runner.specs.declared.script.Line.{Line}
 use Rattle.script_runner.specs.declared.script.Line.TheVariants.{Command, Go}
 use Rattle.script_runner.specs.Script.{is_served}
@@ -25,7 +27,7 @@ abbrev pub command_turns : Line → List Turn
 command_turns (Command i t a cdb sent) =
     turn (Arrive i) (Arrived 1 i t a cdb sent ∷ [])
     ∷ turn (Work 1) (Started 1 ∷ [])
-    ∷ turn (Work 1) (Get 1 (record { 0 = address_of cdb }) zeros ∷ Ended 1 0 ∷ [])
+    ∷ turn (Work 1) (Get 1 (record { 0 = address_of cdb }) zeros ∷ Ended 1 good ∷ [])
     ∷ []
 command_turns Go = []
 
@@ -34,9 +36,14 @@ abbrev pub turns_for : List Line → List Turn
 turns_for (command ∷ Go ∷ []) = command_turns command
 turns_for lines = []
 
--- a command is one that is served
+abbrev pub is_simple : Attribute → Bool
+is_simple Simple = true
+is_simple Ordered = false
+is_simple Head = false
+
+-- a command is one that is served: initiator 1 sends it, and it is SIMPLE
 abbrev pub IsServedLine : Line → Type 0
-IsServedLine (Command i t a cdb sent) = IsTrue (is_simple a) × IsTrue (is_served cdb)
+IsServedLine (Command i t a cdb sent) = (i ≡ 1) × IsTrue (is_simple a) × IsTrue (is_served cdb)
 IsServedLine Go = Unit {0}
 
 abbrev pub AreServed : List Line → Type 0

@@ -3,20 +3,14 @@
 ghost use Rattle.std.specs.Prelude.{◌≡◌, ℕ, ◌==◌, ◌<◌, ◌^◌, [], ◌∷◌, ◌++◌, List, OnOk, IfOk, decimal, length, count_by};
 ghost use Rattle.std.specs.List.{list_all};
 ghost use Rattle.hex.specs.Hex.{encode_upper};
-ghost use Rattle.script_runner.specs.Report.{spaced, byte_word, attribute_word, sent_word, block_word, value_word, entry_words, label_words, with_entries, turn_line, turn_lines, entries_that, is_arrival, is_end, end_words, nothing_words, summary_line, report_of};
+ghost use Rattle.script_runner.specs.Report.{spaced, byte_word, attribute_word, sent_word, block_word, value_word, sense_words, entry_words, label_words, with_entries, turn_line, turn_lines, entries_that, is_arrival, is_end, end_words, nothing_words, summary_line, report_of};
 ghost use Rattle.script_runner.specs.Counted.{is_counted};
 
 use block_machine::{Entry, Label, Turn};
 use disk_base::{Attribute, Block, Bytes, DataOut, NoMemory, Value};
 use itoa::Buffer;
+use sense_data::{CHECK_CONDITION, GOOD, Sense, TASK_SET_FULL};
 use std::alloc::Global;
-
-/// Statuses (SAM-4, status codes).
-pub(crate) const GOOD: u8 = 0x00;
-
-const CHECK_CONDITION: u8 = 0x02;
-
-const TASK_SET_FULL: u8 = 0x28;
 
 /// The report of turns: a line for each, and the summary.
 pub(crate) fn report(alloc: Global, turns: &[Turn]) -> Result<Bytes, NoMemory>
@@ -90,6 +84,8 @@ fn put_label(text: &mut Bytes, label: &Label) -> Result<(), NoMemory>
             put_word(text, b"work")?;
             put_number(text, u128::from(*c))
         }
+        // Nothing else happens yet.
+        _ => Ok(()),
     }
 }
 
@@ -124,12 +120,27 @@ fn put_entry(alloc: Global, text: &mut Bytes, entry: &Entry) -> Result<(), NoMem
             put_number(text, u128::from(b.0))?;
             put_value(alloc, text, value)
         }
-        Entry::Ended { c, status } => {
+        Entry::Ended { c, reply } => {
             put_word(text, b"end")?;
             put_number(text, u128::from(*c))?;
             put_word(text, b"")?;
-            put_hex(alloc, text, &[*status])
+            put_hex(alloc, text, &[reply.status])?;
+            put_sense(alloc, text, &reply.sense)
         }
+        // Nothing else happens yet.
+        _ => Ok(()),
+    }
+}
+
+fn put_sense(alloc: Global, text: &mut Bytes, sense: &Option<Sense>) -> Result<(), NoMemory>
+    ensures { OnOk result (text.new ≡ spaced text.old (sense_words sense.now)) }
+{
+    match sense {
+        Some(sense) => {
+            put_word(text, b"")?;
+            put_hex(alloc, text, &sense.bytes())
+        }
+        None => Ok(()),
     }
 }
 
@@ -255,7 +266,7 @@ fn is_counted(counted: Counted, entry: &Entry) -> bool
 {
     match (counted, entry) {
         (Counted::Commands, Entry::Arrived { .. }) => true,
-        (Counted::Ends(wanted), Entry::Ended { status, .. }) => *status == wanted,
+        (Counted::Ends(wanted), Entry::Ended { reply, .. }) => reply.status == wanted,
         _ => false,
     }
 }

@@ -1,15 +1,16 @@
 //! A run: a script carried out over the plain array.
 
 ghost use Rattle.std.specs.Prelude.{◌≡◌, ◌<◌, [], ◌∷◌, IfOk, IsTrue, replicate};
+ghost use Rattle.cdb_reader.specs.Replies.{good};
 ghost use Rattle.block_machine.specs.Blocks.{zeros};
 ghost use Rattle.script_runner.specs.Script.{is_served, capacity};
 ghost use Rattle.script_runner.specs.Turns.{turns_for, command_turns, turn, address_of, IsServedLine, AreServed};
 
 use crate::plain::Plain;
-use crate::printing::GOOD;
 use crate::script::{Line, Script};
 use block_machine::{Entries, Entry, Label, Turn, Turns};
 use disk_base::{Block, Cdb, Lba, NoMemory, Value};
+use sense_data::Reply;
 use std::alloc::Global;
 
 /// A script and the turns that carried it out.
@@ -62,7 +63,7 @@ fn carry_out_command(alloc: Global, line: &Line) -> Result<Turns, NoMemory>
 // The turn that gets the block and ends the command.
 fn last_turn(alloc: Global, b: Lba) -> Result<Turn, NoMemory>
     requires { b.0 < capacity }
-    ensures { IfOk result (λ t. t ≡ turn (Label.Work 1) (Entry.Get 1 b zeros ∷ Entry.Ended 1 0 ∷ [])) }
+    ensures { IfOk result (λ t. t ≡ turn (Label.Work 1) (Entry.Get 1 b zeros ∷ Entry.Ended 1 good ∷ [])) }
 {
     let block = block_at(alloc, b)?;
     let mut entries = Entries::new(alloc);
@@ -71,7 +72,11 @@ fn last_turn(alloc: Global, b: Lba) -> Result<Turn, NoMemory>
         b,
         value: Value::Data(block),
     })?;
-    entries.push(Entry::Ended { c: 1, status: GOOD })?;
+    let ended = Entry::Ended {
+        c: 1,
+        reply: Reply::good(),
+    };
+    entries.push(ended)?;
     Ok(Turn {
         label: Label::Work(1),
         ops_from: 0,

@@ -1,0 +1,277 @@
+-- Laws on legal histories, in words on entries alone.
+use Rattle.std.specs.Prelude.{◌≡◌, ℕ, zero, suc, ◌+◌, ◌-◌, ◌<◌, ◌≤◌, ◌==◌, ◌||◌, ◌&&◌, nat_lt, nat_le, Bool, true, false, not, if◌then◌else◌, IsTrue, List, [], ◌∷◌, ◌++◌, fold, filter, length, slice_get, Result, Ok}
+use Rattle.std.specs.List.{list_any, list_all, range_with_len}
+use Rattle.std.specs.Option.{option_map_or}
+use Rattle.disk_base.specs.declared.address.Lba.{Lba}
+use Rattle.disk_base.specs.declared.block.Value.{Value}
+use Rattle.disk_base.specs.declared.block.Value.TheVariants.{Data, Lost}
+use Rattle.disk_base.specs.declared.address.Tag.{Tag}
+use Rattle.disk_base.specs.declared.command.Attribute.{Attribute}
+use Rattle.disk_base.specs.declared.command.DataOut.{DataOut}
+use Rattle.sense_data.specs.declared.sense.Sense.{Sense}
+use Rattle.sense_data.specs.declared.reply.Reply.{Reply}
+use Rattle.sense_data.specs.Attentions.{Waiting}
+use Rattle.cdb_reader.specs.Read.{read_of}
+use Rattle.cdb_reader.specs.Replies.{is_recovered}
+use Rattle.cdb_reader.specs.Request.{Request}
+use Rattle.cdb_reader.specs.Request as request
+use Rattle.cdb_reader.specs.Plan.{block_of}
+use Rattle.block_machine.specs.declared.entry.Who.{Who}
+use Rattle.block_machine.specs.declared.entry.Who.TheVariants.{Command}
+use Rattle.block_machine.specs.declared.entry.Entry.{Entry}
+use Rattle.block_machine.specs.declared.entry.Entry.TheVariants.{Arrived, Started, Get, Put, Harden, Passed, GiveUp, Ended, Aborted, Cut}
+use Rattle.block_machine.specs.declared.turn.Turn.{Turn}
+use Rattle.block_machine.specs.Blocks.{zeros, same_value, is_dirty, blocks_at_start, blocks_after}
+use Rattle.task_set.specs.Members.{numbers}
+use Rattle.mode_pages.specs.declared.settings.Settings.{Settings}
+use Rattle.mode_pages.specs.Settings.{default_settings}
+use Rattle.block_machine.specs.State.{state_at_start}
+use Rattle.block_machine.specs.Steps.{settings_after}
+use Rattle.block_machine.specs.History.{legal_from, task_legal_from, turns_after, entries_of}
+
+-- turns are a legal history, whatever attentions wait at its start
+abbrev pub IsLegal : ℕ → Waiting → List Turn → Type 0
+IsLegal capacity waiting turns = IsTrue (legal_from capacity (state_at_start waiting) turns)
+
+-- an entry gives a block something newer than it has on the medium: a value, or that it is given up
+abbrev pub renews : ℕ → Entry → Bool
+renews b (Put c a v) = b == a.0
+renews b (GiveUp a) = b == a.0
+renews b other = false
+
+-- the power goes off
+abbrev pub is_cut : Entry → Bool
+is_cut Cut = true
+is_cut other = false
+
+-- the newest value of a block after an entry
+abbrev pub newest_after : ℕ → Value → Entry → Value
+newest_after b v (Put c a w) = if b == a.0 then Data w else v
+newest_after b v (GiveUp a) = if b == a.0 then Lost else v
+newest_after b v other = v
+
+-- the value that was put last, or zeros; lost, where the block was given up since
+abbrev pub last_put : ℕ → List Entry → Value
+last_put b entries = fold (newest_after b) zeros entries
+
+-- the last of some values alone
+abbrev pub last_alone : List Value → List Value
+last_alone values = option_map_or (λ v. v ∷ []) (slice_get values (length values - 1)) values
+
+-- the values of a block that was hardened last and of those that were put since, after an entry
+abbrev pub values_after : ℕ → List Value → Entry → List Value
+values_after b values (Put c a w) = if b == a.0 then values ++ Data w ∷ [] else values
+values_after b values (GiveUp a) = if b == a.0 then values ++ Lost ∷ [] else values
+values_after b values (Harden who a) = if b == a.0 then last_alone values else values
+values_after b values other = values
+
+-- the value that was hardened last, zeros at first, and those that were put since
+abbrev pub values_since_hardened : ℕ → List Entry → List Value
+values_since_hardened b entries = fold (values_after b) (zeros ∷ []) entries
+
+-- each of some entries leaves a block as new as it is
+abbrev pub NoneRenews : ℕ → List Entry → Type 0
+NoneRenews b entries = IsTrue (list_all (λ e. not (renews b e)) entries)
+
+-- a law: without a power cut, a read that isn't bad gives the value that was put last, or zeros; so a block that was given up
+-- since is bad
+abbrev pub ReadsGiveWhatWasPutLast : Type 0
+ReadsGiveWhatWasPutLast = (capacity : ℕ) (waiting : Waiting) (turns : List Turn) (before after : List Entry) (c : ℕ) (b : Lba) (d : List ℕ)
+    → IsLegal capacity waiting turns → entries_of turns ≡ before ++ Get c b (Data d) ∷ after
+    → IsTrue (list_all (λ e. not (is_cut e)) before)
+    → last_put b.0 before ≡ Data d
+
+-- a law: once hardened, a value is what each later read gives that isn't bad, over any number of power cuts, until a newer one
+-- is put or the block is given up
+abbrev pub HardenedValuesStay : Type 0
+HardenedValuesStay = (capacity : ℕ) (waiting : Waiting) (turns : List Turn) (before between after : List Entry) (who : Who) (c : ℕ) (b : Lba) (d : List ℕ)
+    → IsLegal capacity waiting turns → entries_of turns ≡ before ++ Harden who b ∷ (between ++ Get c b (Data d) ∷ after)
+    → NoneRenews b.0 between
+    → last_put b.0 before ≡ Data d
+
+-- a law: a read that isn't bad gives the value that was hardened last, zeros where none was, or one that was put since; also
+-- after power cuts
+abbrev pub ReadsGiveHardenedOrNewer : Type 0
+ReadsGiveHardenedOrNewer = (capacity : ℕ) (waiting : Waiting) (turns : List Turn) (before after : List Entry) (c : ℕ) (b : Lba) (d : List ℕ)
+    → IsLegal capacity waiting turns → entries_of turns ≡ before ++ Get c b (Data d) ∷ after
+    → IsTrue (list_any (same_value (Data d)) (values_since_hardened b.0 before))
+
+-- a law: after a power cut the first read that isn't bad settles what the block has: each later one gives the same or is bad,
+-- over further cuts, until a newer value is put or the block is given up
+abbrev pub FirstReadSettles : Type 0
+FirstReadSettles = (capacity : ℕ) (waiting : Waiting) (turns : List Turn) (before first between after : List Entry) (b : Lba) (c1 c2 : ℕ) (d1 d2 : List ℕ)
+    → IsLegal capacity waiting turns
+    → entries_of turns ≡ before ++ Cut ∷ (first ++ Get c1 b (Data d1) ∷ (between ++ Get c2 b (Data d2) ∷ after))
+    → NoneRenews b.0 first → NoneRenews b.0 between
+    → d1 ≡ d2
+
+-- a law: the beginnings of a legal history are legal
+abbrev pub BeginningsAreLegal : Type 0
+BeginningsAreLegal = (capacity : ℕ) (waiting : Waiting) (turns more : List Turn) → IsLegal capacity waiting (turns ++ more) → IsLegal capacity waiting turns
+
+-- turns are a legal history as far as commands go
+abbrev pub IsTaskLegal : ℕ → Waiting → List Turn → Type 0
+IsTaskLegal capacity waiting turns = IsTrue (task_legal_from capacity (state_at_start waiting) turns)
+
+-- the blocks whose data a command got, after an entry
+abbrev pub got_after : ℕ → List ℕ → Entry → List ℕ
+got_after c blocks (Get d b (Data v)) = if c == d then blocks ++ b.0 ∷ [] else blocks
+got_after c blocks other = blocks
+
+-- the blocks whose data a command got, in order
+abbrev pub blocks_got : ℕ → List Entry → List ℕ
+blocks_got c entries = fold (got_after c) [] entries
+
+-- GOOD, or RECOVERED ERROR
+abbrev pub succeeds : Reply → Bool
+succeeds reply = reply.status == 0x00 || is_recovered reply
+
+-- a read or a verification of so many blocks from one on
+abbrev pub AsksToRead : Result Request Sense → ℕ → ℕ → Type 0
+AsksToRead (Ok (request.Read from count fua)) b n = (from ≡ b) × (count ≡ n)
+AsksToRead (Ok (request.Verify from count)) b n = (from ≡ b) × (count ≡ n)
+AsksToRead other b n = ⊥
+
+-- a law: a read or a verification that ends GOOD, or with a recovered error, got each block of its range once, in order
+abbrev pub ReadsGetEachBlockOnce : Type 0
+ReadsGetEachBlockOnce = (capacity : ℕ) (waiting : Waiting) (turns : List Turn) (first between after : List Entry) (c i : ℕ) (t : Tag) (a : Attribute)
+    (cdb : List ℕ) (sent : DataOut) (reply : Reply) (b n : ℕ)
+    → IsTaskLegal capacity waiting turns
+    → entries_of turns ≡ first ++ Arrived c i t a cdb sent ∷ (between ++ Ended c reply ∷ after)
+    → AsksToRead (read_of cdb sent capacity) b n → IsTrue (succeeds reply)
+    → blocks_got c between ≡ range_with_len b n
+
+-- what a command did on the medium: a block was put with these data, a block was hardened, a range was found hardened
+pub data Mark : Type 0 where
+  Wrote : (b : ℕ) (block : List ℕ) → Mark
+  Forced : (b : ℕ) → Mark
+  Found : (from to : ℕ) → Mark
+
+abbrev pub marks_after : ℕ → List Mark → Entry → List Mark
+marks_after c marks (Put d b v) = if c == d then marks ++ Wrote b.0 v ∷ [] else marks
+marks_after c marks (Harden (Command d) b) = if c == d then marks ++ Forced b.0 ∷ [] else marks
+marks_after c marks (Passed d from to) = if c == d then marks ++ Found from.0 to.0 ∷ [] else marks
+marks_after c marks other = marks
+
+-- all that a command did on the medium, in order
+abbrev pub marks_of : ℕ → List Entry → List Mark
+marks_of c entries = fold (marks_after c) [] entries
+
+-- so many blocks from one on are put with their data, and each is hardened before the next is put
+abbrev pub written_through : ℕ → DataOut → ℕ → List Mark
+written_through b sent zero = []
+written_through b sent (suc k) = written_through b sent k ++ Wrote (b + k) (block_of sent k) ∷ Forced (b + k) ∷ []
+
+abbrev pub is_forced : Mark → Bool
+is_forced (Forced b) = true
+is_forced other = false
+
+-- the mode values that entries leave, from the defaults on
+abbrev pub settings_left : List Entry → Settings
+settings_left entries = fold settings_after default_settings entries
+
+-- a write that goes through of so many blocks from one on, where these mode values hold at its start: the write cache is off, or
+-- it is with FUA, or with a verification
+abbrev pub AsksToForce : Result Request Sense → Settings → ℕ → ℕ → Type 0
+AsksToForce (Ok (request.Write from count fua)) settings b n = (from ≡ b) × (count ≡ n) × IsTrue (not settings.wce || fua)
+AsksToForce (Ok (request.WriteAndVerify from count)) settings b n = (from ≡ b) × (count ≡ n)
+AsksToForce other settings b n = ⊥
+
+-- a law: a write with FUA, one that starts while the write cache is off, or a WRITE AND VERIFY, that ends GOOD or with a recovered
+-- error, has from its arrival on put each of its blocks, once, in order and with its data, and hardened each before it put the next;
+-- what it did besides was to harden before it verified
+abbrev pub ForcedWritesAreHardened : Type 0
+ForcedWritesAreHardened = (capacity : ℕ) (waiting : Waiting) (turns : List Turn) (first queued between after : List Entry) (c i : ℕ) (t : Tag)
+    (a : Attribute) (cdb : List ℕ) (sent : DataOut) (reply : Reply) (b n : ℕ)
+    → IsTaskLegal capacity waiting turns
+    → entries_of turns ≡ first ++ Arrived c i t a cdb sent ∷ (queued ++ Started c ∷ (between ++ Ended c reply ∷ after))
+    → AsksToForce (read_of cdb sent capacity) (settings_left (first ++ Arrived c i t a cdb sent ∷ queued)) b n → IsTrue (succeeds reply)
+    → (rest : List Mark) × (marks_of c (queued ++ Started c ∷ between) ≡ written_through b sent n ++ rest) × IsTrue (list_all is_forced rest)
+
+-- a mark says that a block was hardened, or found hardened
+abbrev pub covers : ℕ → Mark → Bool
+covers x (Wrote b block) = false
+covers x (Forced b) = b == x
+covers x (Found from to) = nat_le from x && nat_lt x to
+
+-- a sync of so many blocks from one on
+abbrev pub AsksToSync : Result Request Sense → ℕ → ℕ → Type 0
+AsksToSync (Ok (request.SynchronizeCache from count)) b n = (from ≡ b) × (count ≡ n)
+AsksToSync other b n = ⊥
+
+-- a law: when a sync ends GOOD, each block of its range was, at some moment since its start, without a value that isn't hardened:
+-- the entries between part at that moment
+abbrev pub SyncsFindEachBlockHardened : Type 0
+SyncsFindEachBlockHardened = (capacity : ℕ) (waiting : Waiting) (turns : List Turn) (first queued between after : List Entry) (c i : ℕ) (t : Tag)
+    (a : Attribute) (cdb : List ℕ) (sent : DataOut) (reply : Reply) (b n x : ℕ)
+    → IsLegal capacity waiting turns
+    → entries_of turns ≡ first ++ Arrived c i t a cdb sent ∷ (queued ++ Started c ∷ (between ++ Ended c reply ∷ after))
+    → AsksToSync (read_of cdb sent capacity) b n → IsTrue (succeeds reply)
+    → b ≤ x → x < b + n
+    → (part rest : List Entry) × (between ≡ part ++ rest)
+    × (is_dirty (fold blocks_after blocks_at_start (first ++ Arrived c i t a cdb sent ∷ (queued ++ Started c ∷ part)) x) ≡ false)
+
+-- numbers without this one
+abbrev pub left_out : ℕ → List ℕ → List ℕ
+left_out c numbers = filter (λ d. not (d == c)) numbers
+
+-- what has become of commands: the numbers of those that are in, and of those that ended or were aborted; and how many came, ended
+-- with a reply, were aborted by a function, and were in when the power went off
+pub record Tally : Type 0 where
+  pub inside : List ℕ
+  pub gone : List ℕ
+  pub came : ℕ
+  pub ended : ℕ
+  pub aborted : ℕ
+  pub cut : ℕ
+
+abbrev pub tally_at_start : Tally
+tally_at_start = record { inside = []; gone = []; came = 0; ended = 0; aborted = 0; cut = 0 }
+
+abbrev pub tally_after : Tally → Entry → Tally
+tally_after t (Arrived c i tag a cdb sent) = record t { inside = t.inside ++ c ∷ []; came = t.came + 1 }
+tally_after t (Ended c reply) = record t { inside = left_out c t.inside; gone = t.gone ++ c ∷ []; ended = t.ended + 1 }
+tally_after t (Aborted c) = record t { inside = left_out c t.inside; gone = t.gone ++ c ∷ []; aborted = t.aborted + 1 }
+tally_after t Cut = record t { inside = []; cut = t.cut + length t.inside }
+tally_after t other = t
+
+abbrev pub tally_of : List Entry → Tally
+tally_of entries = fold tally_after tally_at_start entries
+
+-- a law: the commands that came are those that ended, were aborted, were cut off, and are still in, which are the task set's
+abbrev pub CommandsAreAccountedFor : Type 0
+CommandsAreAccountedFor = (capacity : ℕ) (waiting : Waiting) (turns : List Turn) → IsTaskLegal capacity waiting turns
+    → ((tally_of (entries_of turns)).came
+    ≡ (tally_of (entries_of turns)).ended + (tally_of (entries_of turns)).aborted + (tally_of (entries_of turns)).cut + length (tally_of (entries_of turns)).inside)
+    × ((tally_of (entries_of turns)).inside ≡ numbers (turns_after capacity (state_at_start waiting) turns).set)
+
+-- GOOD, CHECK CONDITION or TASK SET FULL (SAM-4, status codes)
+abbrev pub is_status : ℕ → Bool
+is_status status = status == 0x00 || status == 0x02 || status == 0x28
+
+-- a law: each end has one of these statuses
+abbrev pub EndsHaveTheirStatus : Type 0
+EndsHaveTheirStatus = (capacity : ℕ) (waiting : Waiting) (turns : List Turn) (before after : List Entry) (c : ℕ) (reply : Reply)
+    → IsTaskLegal capacity waiting turns → entries_of turns ≡ before ++ Ended c reply ∷ after
+    → IsTrue (is_status reply.status)
+
+-- an entry ends a command: with a reply, or by a function
+abbrev pub is_end_of : ℕ → Entry → Bool
+is_end_of c (Ended d reply) = d == c
+is_end_of c (Aborted d) = d == c
+is_end_of c other = false
+
+-- a law: no command has two ends, of either kind
+abbrev pub NoneEndsTwice : Type 0
+NoneEndsTwice = (capacity : ℕ) (waiting : Waiting) (turns : List Turn) (before between after : List Entry) (c : ℕ) (one another : Entry)
+    → IsTaskLegal capacity waiting turns → entries_of turns ≡ before ++ one ∷ (between ++ another ∷ after)
+    → IsTrue (is_end_of c one) → IsTrue (is_end_of c another) → ⊥
+
+-- a law: a command that ends with success started before
+abbrev pub SuccessesFollowStarts : Type 0
+SuccessesFollowStarts = (capacity : ℕ) (waiting : Waiting) (turns : List Turn) (first between after : List Entry) (c i : ℕ) (t : Tag) (a : Attribute)
+    (cdb : List ℕ) (sent : DataOut) (reply : Reply)
+    → IsTaskLegal capacity waiting turns
+    → entries_of turns ≡ first ++ Arrived c i t a cdb sent ∷ (between ++ Ended c reply ∷ after)
+    → IsTrue (succeeds reply)
+    → (queued rest : List Entry) × (between ≡ queued ++ Started c ∷ rest)
