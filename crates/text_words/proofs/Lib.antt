@@ -1,0 +1,8 @@
+pub mod Gathering
+pub mod Comparing
+pub mod Worth
+pub mod Splitting
+pub mod Chunks
+pub mod Numerals
+pub mod Words
+mod Rows
