@@ -1,0 +1,10 @@
+pub mod Examples
+pub mod LineLemmas
+pub mod ReadLemmas
+pub mod PrintLemmas
+pub mod LineLaw
+pub mod CommentLaw
+pub mod StepLemmas
+pub mod ProperLines
+pub mod CleanLines
+pub mod ScriptLaw

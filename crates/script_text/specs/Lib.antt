@@ -1,0 +1,15 @@
+pub mod Steps
+pub mod Measures
+pub mod Numbers
+pub mod Spelling
+pub mod Forms
+pub mod Grammar
+pub mod Phase
+pub mod Weight
+pub mod Served
+pub mod Answers
+pub mod Standing
+pub mod Meaning
+pub mod Print
+pub mod Proper
+pub mod Laws
