@@ -1,0 +1,50 @@
+use Rattle.std.proofs.Common.{ap}
+use Rattle.sector_store.specs.State.{Contained}
+use Rattle.sector_store.proofs.Calls.{within_platter, placed_by, writes}
+use Rattle.sector_store.proofs.store.Store.write_place.Goals as goal
+
+pub write-requires-clause-sector : goal.write-requires-clause-sector
+write-requires-clause-sector c =
+    within_platter c.args.self.now c.self.inside.map c.self.inside.placer c.self.inside.platter c.args.b c.place-p.result c.blocks_are_at_user_sectors.ensures c.stands.ensures
+    (ap (λ (s : Contained). s.map) c.self.view_is) (ap (λ (s : Contained). s.platter) c.self.view_is) c.self.invariant.placer c.requires.block c.place-p.ensures
+
+pub invariant_of-self : goal.invariant_of-self
+invariant_of-self c =
+    let written = writes c.args.self.now c.self.inside.map c.self.inside.platter c.write.new.self c.args.b c.place-p.result c.user-payload.result c.args.v.now c.write.result c.store_answer.result
+    c.writes_store_one_block.ensures c.stands.ensures c.requires.block
+    (ap (λ (s : Contained). s.map) c.self.view_is) (ap (λ (s : Contained). s.platter) c.self.view_is)
+    (placed_by c.args.self.now c.self.inside.map c.self.inside.placer c.args.b c.place-p.result (ap (λ (s : Contained). s.map) c.self.view_is) c.self.invariant.placer c.requires.block c.place-p.ensures)
+    c.user-payload.ensures c.write.ensures.after c.write.ensures.answer c.store_answer.ensures in
+    record { placer = c.self.invariant.placer; there = written.there; sectors = written.sectors }
+
+pub returns-clause-done : goal.returns-clause-done
+returns-clause-done c =
+    (writes c.args.self.now c.self.inside.map c.self.inside.platter c.write.new.self c.args.b c.place-p.result c.user-payload.result c.args.v.now c.write.result c.store_answer.result
+    c.writes_store_one_block.ensures c.stands.ensures c.requires.block
+    (ap (λ (s : Contained). s.map) c.self.view_is) (ap (λ (s : Contained). s.platter) c.self.view_is)
+    (placed_by c.args.self.now c.self.inside.map c.self.inside.placer c.args.b c.place-p.result (ap (λ (s : Contained). s.map) c.self.view_is) c.self.invariant.placer c.requires.block c.place-p.ensures)
+    c.user-payload.ensures c.write.ensures.after c.write.ensures.answer c.store_answer.ensures).done
+
+pub returns-clause-fault : goal.returns-clause-fault
+returns-clause-fault c =
+    (writes c.args.self.now c.self.inside.map c.self.inside.platter c.write.new.self c.args.b c.place-p.result c.user-payload.result c.args.v.now c.write.result c.store_answer.result
+    c.writes_store_one_block.ensures c.stands.ensures c.requires.block
+    (ap (λ (s : Contained). s.map) c.self.view_is) (ap (λ (s : Contained). s.platter) c.self.view_is)
+    (placed_by c.args.self.now c.self.inside.map c.self.inside.placer c.args.b c.place-p.result (ap (λ (s : Contained). s.map) c.self.view_is) c.self.invariant.placer c.requires.block c.place-p.ensures)
+    c.user-payload.ensures c.write.ensures.after c.write.ensures.answer c.store_answer.ensures).fault
+
+pub returns-clause-cut : goal.returns-clause-cut
+returns-clause-cut c =
+    (writes c.args.self.now c.self.inside.map c.self.inside.platter c.write.new.self c.args.b c.place-p.result c.user-payload.result c.args.v.now c.write.result c.store_answer.result
+    c.writes_store_one_block.ensures c.stands.ensures c.requires.block
+    (ap (λ (s : Contained). s.map) c.self.view_is) (ap (λ (s : Contained). s.platter) c.self.view_is)
+    (placed_by c.args.self.now c.self.inside.map c.self.inside.placer c.args.b c.place-p.result (ap (λ (s : Contained). s.map) c.self.view_is) c.self.invariant.placer c.requires.block c.place-p.ensures)
+    c.user-payload.ensures c.write.ensures.after c.write.ensures.answer c.store_answer.ensures).cut
+
+pub returns-clause-others : goal.returns-clause-others
+returns-clause-others c =
+    (writes c.args.self.now c.self.inside.map c.self.inside.platter c.write.new.self c.args.b c.place-p.result c.user-payload.result c.args.v.now c.write.result c.store_answer.result
+    c.writes_store_one_block.ensures c.stands.ensures c.requires.block
+    (ap (λ (s : Contained). s.map) c.self.view_is) (ap (λ (s : Contained). s.platter) c.self.view_is)
+    (placed_by c.args.self.now c.self.inside.map c.self.inside.placer c.args.b c.place-p.result (ap (λ (s : Contained). s.map) c.self.view_is) c.self.invariant.placer c.requires.block c.place-p.ensures)
+    c.user-payload.ensures c.write.ensures.after c.write.ensures.answer c.store_answer.ensures).others

@@ -1,0 +1,9 @@
+pub mod Maps
+pub mod Factory
+pub mod Stored
+pub mod Tries
+pub mod State
+pub mod Happening
+pub mod Laws
+pub mod Lending
+pub mod Shapes
