@@ -1,0 +1,5 @@
+pub mod Array
+pub mod Known
+pub mod Replay
+pub mod Steps
+pub mod Warning
