@@ -1,5 +1,9 @@
+pub mod Aborting
+pub mod Absent
 pub mod BlocksOf
 pub mod Both
+pub mod KnownWaiting
+pub mod Others
 pub mod Raising
 pub mod Retained
 pub mod Turn

@@ -1,4 +1,6 @@
+pub mod Arrival
 pub mod Array
+pub mod Deeds
 pub mod Known
 pub mod Replay
 pub mod Steps

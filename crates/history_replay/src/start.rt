@@ -44,8 +44,8 @@ pub fn first_plan(
     }
 }
 
-// The attention with which a command of this operation code ends, where one waits for its initiator.
-fn attention_met(waiting: &Attentions, i: Initiator, code: u8) -> Option<Sense>
+/// The attention with which a command of this operation code ends, where one waits for its initiator.
+pub fn attention_met(waiting: &Attentions, i: Initiator, code: u8) -> Option<Sense>
     ensures { result ≡ attention_met waiting.now i code }
 {
     if code == 0x12 || code == 0xA0 || code == 0x03 {
