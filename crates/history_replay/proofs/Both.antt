@@ -1,5 +1,5 @@
 -- Legal histories are those that are legal for commands and for blocks.
-use Rattle.std.proofs.Common.{◌≡◌, ◌∙◌, ap, sym, refl, ℕ, ◌+◌, Bool, true, false, cond, List, [], ◌∷◌}
+use Rattle.std.proofs.Common.{◌≡◌, ◌∙◌, ap, sym, refl, ℕ, ◌+◌, Bool, true, false, List, [], ◌∷◌}
 use Rattle.std.specs.Prelude.{◌&&◌, fold, Option, Some, None}
 use Rattle.std.specs.Option.{option_map, is_none}
 use Rattle.disk_base.specs.Along.{all_along, first_failing}
@@ -11,6 +11,7 @@ use Rattle.block_machine.specs.Turns.{blocks_lawful, tasks_lawful, turn_after}
 use Rattle.block_machine.specs.History.{legal_from, task_legal_from, turns_after}
 use Rattle.block_machine.proofs.Projection.{blocks_of_turn}
 use Rattle.history_replay.specs.Replay.{turn_allowed, after_turn, LegalHasBoth, LegalLeavesTheseBlocks}
+use Rattle.history_replay.proofs.Along.{none_fails}
 
 -- the blocks allow the entries of turns
 allowed_from : ℕ → Blocks → List Turn → Bool
@@ -24,7 +25,7 @@ and_swap : (b l a : Bool) → (b && (l && a)) ≡ (l && (b && a))
 and_swap true l a = refl
 and_swap false l a = and_false l
 
-and_four : (t b l a : Bool) → ((t && b) && (l && a)) ≡ ((t && l) && (b && a))
+pub and_four : (t b l a : Bool) → ((t && b) && (l && a)) ≡ ((t && l) && (b && a))
 and_four true b l a = and_swap b l a
 and_four false b l a = refl
 
@@ -41,19 +42,9 @@ legal-splits capacity s (turn ∷ turns) =
     ∙ ap (λ (blocks : Blocks). (t && b) && (task_legal_from capacity after turns && allowed_from capacity blocks turns)) (blocks_of_turn capacity s turn)
     ∙ and_four t b (task_legal_from capacity after turns) (allowed_from capacity (after_turn s.blocks turn) turns)
 
-is_none-map : (f : ℕ → ℕ) (o : Option ℕ) → is_none (option_map f o) ≡ is_none o
+pub is_none-map : (f : ℕ → ℕ) (o : Option ℕ) → is_none (option_map f o) ≡ is_none o
 is_none-map f None = refl
 is_none-map f (Some n) = refl
-
-none-step : (f : ℕ → ℕ) (b : Bool) (o : Option ℕ) (r : Bool) → is_none o ≡ r → is_none (cond b (option_map f o) (Some 0)) ≡ (b && r)
-none-step f true o r h = is_none-map f o ∙ h
-none-step f false o r h = refl
-
--- nothing fails where all passes
-module _ {S T : Type 0} (step : S → T → S) (p : S → T → Bool) where
-  none-fails : (s : S) (ts : List T) → is_none (first_failing step p s ts) ≡ all_along step p s ts
-  none-fails s [] = refl
-  none-fails s (t ∷ ts) = none-step (λ n. n + 1) (p s t) (first_failing step p (step s t) ts) (all_along step p (step s t) ts) (none-fails (step s t) ts)
 
 pub legal-both : LegalHasBoth
 unfolding allowed_from
@@ -62,7 +53,7 @@ legal-both capacity turns =
     let first = first_failing after_turn (turn_allowed capacity) blocks_at_start turns in
     legal-splits capacity s turns
     ∙ ap (λ (x : Bool). task_legal_from capacity s turns && x)
-    (sym (is_none-map (λ n. n + 1) first ∙ none-fails after_turn (turn_allowed capacity) blocks_at_start turns))
+    (sym (is_none-map (λ n. n + 1) first ∙ none_fails after_turn (turn_allowed capacity) blocks_at_start turns))
 
 leaves : (capacity : ℕ) (s : State) (turns : List Turn) → (turns_after capacity s turns).blocks ≡ fold after_turn s.blocks turns
 leaves capacity s [] = refl

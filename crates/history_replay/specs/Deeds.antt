@@ -1,6 +1,8 @@
 -- What an entry is for its command, as far as that depends on the blocks and on the command.
-use Rattle.std.specs.Prelude.{ℕ, List, Option, Result}
+use Rattle.std.specs.Prelude.{ℕ, ◌==◌, if◌then◌else◌, List, [], ◌∷◌, Option, Result}
+use Rattle.std.specs.List.{list_any}
 use Rattle.std.specs.Option.{option_and_then}
+use Rattle.disk_base.specs.declared.block.Value.TheVariants.{Lost}
 use Rattle.sense_data.specs.declared.sense.Sense.{Sense}
 use Rattle.sense_data.specs.Attentions.{none_waiting}
 use Rattle.cdb_reader.specs.declared.plan.Plan.{Plan}
@@ -15,6 +17,10 @@ use Rattle.history_replay.specs.declared.deed.Done.{Done}
 abbrev pub working_state : Blocks → Result Request Sense → List ℕ → State
 working_state blocks asks dirty =
     record (state_at_start none_waiting) { duties = λ c. record no_duty { asks = asks; dirty_then = dirty }; blocks = blocks }
+
+-- blocks of which those of some addresses are dirty
+abbrev pub marked_blocks : List ℕ → Blocks
+marked_blocks dirty = λ b. record { base = []; newer = if list_any (λ a. a == b) dirty then Lost ∷ [] else [] }
 
 -- the command and what it did
 abbrev pub done_of : Done → deeds.Done

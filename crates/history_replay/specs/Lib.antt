@@ -1,6 +1,8 @@
 pub mod Arrival
 pub mod Array
 pub mod Deeds
+pub mod History
+pub mod Kept
 pub mod Known
 pub mod Replay
 pub mod Steps

@@ -5,8 +5,8 @@ use Rattle.disk_base.specs.Along.{first_failing}
 use Rattle.block_machine.specs.declared.turn.Turn.{Turn}
 use Rattle.block_machine.specs.Blocks.{Blocks, blocks_after, blocks_at_start}
 use Rattle.block_machine.specs.Turns.{blocks_lawful}
-use Rattle.history_replay.specs.declared.replay.ReplayFault.{ReplayFault}
-use Rattle.history_replay.specs.declared.replay.ReplayFault.TheVariants.{NoMemory, Step}
+use Rattle.history_replay.specs.declared.fault.ReplayFault.{ReplayFault}
+use Rattle.history_replay.specs.declared.fault.ReplayFault.TheVariants.{NoMemory, Step}
 use Rattle.block_machine.specs.History.{legal, task_legal, state_after}
 
 -- the blocks allow the entries of a turn

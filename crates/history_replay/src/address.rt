@@ -20,21 +20,7 @@ pub fn settle_dirty(dirty: &mut Vec<u64>, entry: &Entry) -> Result<(), NoMemory>
             dirty.clear();
             Ok(())
         }
-        Entry::Get { .. }
-        | Entry::Passed { .. }
-        | Entry::Arrived { .. }
-        | Entry::Started { .. }
-        | Entry::Page { .. }
-        | Entry::Ended { .. }
-        | Entry::Aborted { .. }
-        | Entry::Asked { .. }
-        | Entry::Mode { .. }
-        | Entry::Scanned { .. }
-        | Entry::Logged { .. }
-        | Entry::PoweredOn { .. }
-        | Entry::Tick { .. }
-        | Entry::Blank { .. }
-        | Entry::Fresh { .. } => Ok(()),
+        _ => Ok(()),
     }
 }
 
@@ -49,7 +35,8 @@ fn add(dirty: &mut Vec<u64>, b: u64) -> Result<(), NoMemory>
     Ok(())
 }
 
-fn is_among(b: u64, dirty: &[u64]) -> bool
+/// Whether an address is among others.
+pub fn is_among(b: u64, dirty: &[u64]) -> bool
     ensures { result ≡ list_any (λ a. a == b) dirty.now }
 {
     dirty.iter().any(|a| *a == b)

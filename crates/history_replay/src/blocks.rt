@@ -44,20 +44,7 @@ pub fn may_come(blocks: &[BlockState], entry: &Entry) -> bool
         Entry::Passed { from, to, .. } => {
             to.0 <= blocks.len() as u64 && none_dirty(blocks, from.0, to.0)
         }
-        Entry::Arrived { .. }
-        | Entry::Started { .. }
-        | Entry::Page { .. }
-        | Entry::Ended { .. }
-        | Entry::Aborted { .. }
-        | Entry::Asked { .. }
-        | Entry::Mode { .. }
-        | Entry::Scanned { .. }
-        | Entry::Logged { .. }
-        | Entry::Cut
-        | Entry::PoweredOn { .. }
-        | Entry::Tick { .. }
-        | Entry::Blank { .. }
-        | Entry::Fresh { .. } => true,
+        _ => true,
     }
 }
 
@@ -74,20 +61,7 @@ pub fn apply(alloc: Global, blocks: &mut Vec<BlockState>, entry: &Entry) -> Resu
         Entry::GiveUp { b } => put(blocks, *b, Value::Lost),
         Entry::Harden { b, .. } => harden(alloc, blocks, *b),
         Entry::Cut => cut(alloc, blocks),
-        Entry::Passed { .. }
-        | Entry::Arrived { .. }
-        | Entry::Started { .. }
-        | Entry::Page { .. }
-        | Entry::Ended { .. }
-        | Entry::Aborted { .. }
-        | Entry::Asked { .. }
-        | Entry::Mode { .. }
-        | Entry::Scanned { .. }
-        | Entry::Logged { .. }
-        | Entry::PoweredOn { .. }
-        | Entry::Tick { .. }
-        | Entry::Blank { .. }
-        | Entry::Fresh { .. } => Ok(()),
+        _ => Ok(()),
     }
 }
 

@@ -5,15 +5,14 @@ ghost use Rattle.cdb_reader.specs.Request.{outcome_of};
 ghost use Rattle.block_machine.specs.Blocks.{is_dirty, without_address};
 ghost use Rattle.block_machine.specs.Deeds.{done, done_by, names_dirty, page_done};
 ghost use Rattle.block_machine.specs.State.{no_duty};
-ghost use Rattle.history_replay.specs.Array.{blocks_of};
-ghost use Rattle.history_replay.specs.Deeds.{done_of, left_of, working_state};
+ghost use Rattle.history_replay.specs.Deeds.{done_of, left_of, marked_blocks, working_state};
 
+use crate::address::is_among;
 use crate::form::has_defect_length;
 use crate::plan::next;
-use crate::state::is_dirty;
-use block_machine::{BlockState, Entry, Label, Who};
+use block_machine::{Entry, Label, Who};
 use cdb_reader::{Command, Deed, Plan};
-use disk_base::{Bytes, NoMemory};
+use disk_base::{Block, Bytes, Lba, NoMemory, Value};
 use sense_data::{Reply, Sense};
 use std::alloc::Global;
 
@@ -28,62 +27,27 @@ pub struct Done {
 }
 
 /// What an entry of a turn is for its command, where it belongs to one: a command that asks for this or is refused with
-/// that, and whose last turn of work began with blocks of these addresses dirty.
+/// that, and whose last turn of work began with blocks of these addresses dirty; those of the first ones are dirty now.
 pub fn deed_of(
     alloc: Global,
     label: &Label,
-    blocks: &[BlockState],
+    dirty: &[u64],
     asks: &Result<Command, Sense>,
     dirty_then: &[u64],
     entry: &Entry,
 ) -> Result<Option<Done>, NoMemory>
-    ensures { IfOk result (λ d. option_map done_of d ≡ done_by label.now (working_state (blocks_of blocks.now) (outcome_of asks.now) dirty_then.now) entry.now) }
+    ensures { IfOk result (λ d. option_map done_of d ≡ done_by label.now (working_state (marked_blocks dirty.now) (outcome_of asks.now) dirty_then.now) entry.now) }
 {
     let (c, what) = match entry {
         Entry::Page { c, bytes } => return page(alloc, *c, asks, bytes),
-        Entry::Get { c, b, value } => {
-            let dirty = is_dirty_at(blocks, b.0);
-            (
-                *c,
-                Deed::Got {
-                    b: *b,
-                    value: *value,
-                    dirty,
-                },
-            )
-        }
-        Entry::Put { c, b, value } => {
-            let full = is_crowded(dirty_then, b.0);
-            (
-                *c,
-                Deed::Put {
-                    b: *b,
-                    block: *value,
-                    full,
-                },
-            )
-        }
+        Entry::Get { c, b, value } => (*c, got(*b, *value, is_dirty_at(dirty, b.0))),
+        Entry::Put { c, b, value } => (*c, put(*b, *value, is_crowded(dirty_then, b.0))),
         Entry::Harden {
             who: Who::Command(c),
             b,
         } => (*c, Deed::Hardened(*b)),
-        Entry::Passed { c, from, to } => (
-            *c,
-            Deed::Passed {
-                from: *from,
-                to: *to,
-            },
-        ),
-        Entry::Ended { c, reply } => {
-            let dirty = names_dirty(blocks, reply);
-            (
-                *c,
-                Deed::Ended {
-                    reply: *reply,
-                    dirty,
-                },
-            )
-        }
+        Entry::Passed { c, from, to } => (*c, passed(*from, *to)),
+        Entry::Ended { c, reply } => (*c, ended(*reply, names_dirty(dirty, reply))),
         Entry::Mode { .. } => match label {
             Label::Work(c) => (*c, Deed::Mode),
             _ => return Ok(None),
@@ -93,20 +57,44 @@ pub fn deed_of(
     Ok(Some(Done { c, what }))
 }
 
+fn got(b: Lba, value: Value, dirty: bool) -> Deed
+    ensures { result ≡ Deed.Got b value dirty }
+{
+    Deed::Got { b, value, dirty }
+}
+
+fn put(b: Lba, block: Block, full: bool) -> Deed
+    ensures { result ≡ Deed.Put b block full }
+{
+    Deed::Put { b, block, full }
+}
+
+fn passed(from: Lba, to: Lba) -> Deed
+    ensures { result ≡ Deed.Passed from to }
+{
+    Deed::Passed { from, to }
+}
+
+fn ended(reply: Reply, dirty: bool) -> Deed
+    ensures { result ≡ Deed.Ended reply dirty }
+{
+    Deed::Ended { reply, dirty }
+}
+
 /// What is left of what a command owes after an entry that is `deed_of` it; none where the entry isn't what it owes, or
 /// belongs to no command.
 pub fn left_after(
     alloc: Global,
     label: &Label,
-    blocks: &[BlockState],
+    dirty: &[u64],
     asks: &Result<Command, Sense>,
     dirty_then: &[u64],
     owes: Option<Plan>,
     entry: &Entry,
 ) -> Result<Option<Plan>, NoMemory>
-    ensures { IfOk result (λ left. left ≡ option_and_then (left_of owes) (done_by label.now (working_state (blocks_of blocks.now) (outcome_of asks.now) dirty_then.now) entry.now)) }
+    ensures { IfOk result (λ left. left ≡ option_and_then (left_of owes) (done_by label.now (working_state (marked_blocks dirty.now) (outcome_of asks.now) dirty_then.now) entry.now)) }
 {
-    let done = deed_of(alloc, label, blocks, asks, dirty_then, entry)?;
+    let done = deed_of(alloc, label, dirty, asks, dirty_then, entry)?;
     Ok(left_of(owes, &done))
 }
 
@@ -152,30 +140,27 @@ fn given(alloc: Global, c: u32, bytes: &[u8]) -> Result<Option<Done>, NoMemory>
     }))
 }
 
-fn is_dirty_at(blocks: &[BlockState], b: u64) -> bool
-    ensures { result ≡ is_dirty (blocks_of blocks.now b) }
+pub fn is_dirty_at(dirty: &[u64], b: u64) -> bool
+    ensures { result ≡ is_dirty (marked_blocks dirty.now b) }
 {
-    match blocks.get(b as usize) {
-        Some(s) => is_dirty(s),
-        None => false,
-    }
+    is_among(b, dirty)
 }
 
 // Whether the block that sense data name is dirty.
-fn names_dirty(blocks: &[BlockState], reply: &Reply) -> bool
-    ensures { result ≡ names_dirty (working_state (blocks_of blocks.now) no_duty.asks []) reply.now }
+fn names_dirty(dirty: &[u64], reply: &Reply) -> bool
+    ensures { result ≡ names_dirty (working_state (marked_blocks dirty.now) no_duty.asks []) reply.now }
 {
     match reply.sense {
-        Some(sense) => is_about_dirty(blocks, &sense),
+        Some(sense) => is_about_dirty(dirty, &sense),
         None => false,
     }
 }
 
-fn is_about_dirty(blocks: &[BlockState], sense: &Sense) -> bool
-    ensures { result ≡ option_map_or (λ b. is_dirty (blocks_of blocks.now b)) sense.now.information false }
+fn is_about_dirty(dirty: &[u64], sense: &Sense) -> bool
+    ensures { result ≡ option_map_or (λ b. is_dirty (marked_blocks dirty.now b)) sense.now.information false }
 {
     match sense.information {
-        Some(b) => is_dirty_at(blocks, b as u64),
+        Some(b) => is_dirty_at(dirty, b as u64),
         None => false,
     }
 }

@@ -1,10 +1,11 @@
 //! What an entry makes of mode values, of the map's state and of the scan; and which turns a start may stand in.
-ghost use Rattle.std.specs.Prelude.{◌≡◌, ◌+◌, ◌<◌, ◌^◌, IsTrue, OnOk};
+ghost use Rattle.std.specs.Prelude.{◌≡◌, ◌+◌, ◌*◌, ◌/◌, ◌%◌, ◌<◌, ◌≤◌, min, IsTrue, OnOk};
 ghost use Rattle.std.specs.List.{list_any};
 ghost use Rattle.block_machine.specs.Entries.{outcome_lawful};
 ghost use Rattle.block_machine.specs.Scan.{scan_after};
 ghost use Rattle.block_machine.specs.Steps.{corrupt_after, is_corrupt, settings_after};
 ghost use Rattle.block_machine.specs.Turns.{is_end, is_start, starts_alone};
+ghost use Rattle.history_replay.specs.Kept.{ShowSame};
 ghost use Rattle.history_replay.specs.Known.{may_log, scan_of};
 
 use crate::Scanning;
@@ -58,14 +59,21 @@ pub fn may_come_out(outcome: &Recovered) -> bool
     }
 }
 
-/// The scan after an entry.
-pub fn watch_scan(alloc: Global, scan: &mut Scanning, entry: &Entry) -> Result<(), NoMemory>
-    requires counted { scan.old.scanned + 1 < 2 ^ 64 }
+/// The scan after an entry, as LOG SENSE shows it on a unit of so many blocks.
+pub fn watch_scan(
+    alloc: Global,
+    scan: &mut Scanning,
+    capacity: u64,
+    entry: &Entry,
+) -> Result<(), NoMemory>
+    requires few { capacity ≤ 4096 }
+    requires counted { scan.old.scanned < 65536 * capacity }
     requires fits { IsTrue (may_log entry.now) }
-    ensures { OnOk result (scan_of scan.new ≡ scan_after (scan_of scan.old) entry.now) }
+    ensures shown { OnOk result (ShowSame capacity (scan_of scan.new) (scan_after (scan_of scan.old) entry.now)) }
+    ensures counted { scan.new.scanned < 65536 * capacity }
 {
     match entry {
-        Entry::Scanned { .. } => scan.scanned += 1,
+        Entry::Scanned { .. } => scan.scanned = one_more(scan.scanned, capacity),
         Entry::Logged { finding } => scan.log.add(*finding),
         Entry::Tick { minutes } => scan.minutes = scan.minutes.saturating_add(*minutes as u32),
         Entry::Cut => scan.log = ScanLog::new(alloc)?,
@@ -79,6 +87,21 @@ pub fn watch_scan(alloc: Global, scan: &mut Scanning, entry: &Entry) -> Result<(
         _ => {}
     }
     Ok(())
+}
+
+// One more block that the scan was done with. Passes end at 65,535, so that the last of them begins again.
+fn one_more(scanned: u64, capacity: u64) -> u64
+    requires few { capacity ≤ 4096 }
+    requires counted { scanned < 65536 * capacity }
+    ensures passes { min (result / capacity) 65535 ≡ min ((scanned + 1) / capacity) 65535 }
+    ensures cursor { result % capacity ≡ (scanned + 1) % capacity }
+    ensures counted { result < 65536 * capacity }
+{
+    if scanned + 1 == 65536 * capacity {
+        65535 * capacity
+    } else {
+        scanned + 1
+    }
 }
 
 /// Whether a start among these entries stands alone, or the command ends in the turn.

@@ -6,7 +6,7 @@ use sense_data::Attentions;
 #[derive(Debug, Drop)]
 pub struct Scanning {
     pub minutes: u32,
-    /// How many blocks the scan was done with.
+    /// How many blocks the scan was done with; passes behind the 65,535th aren't counted.
     pub scanned: u64,
     pub log: ScanLog,
 }

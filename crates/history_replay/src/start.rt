@@ -1,10 +1,11 @@
 //! What a command owes from its start on: the first rule that applies decides.
-ghost use Rattle.std.specs.Prelude.{◌≡◌, ◌+◌, ◌≤◌, length, unwrap_or, IfOk, IsTrue};
-ghost use Rattle.cdb_reader.specs.Plan.{reading_from, unless_empty, writing_from};
+ghost use Rattle.std.specs.Prelude.{◌≡◌, ◌+◌, ◌≤◌, length, not, unwrap_or, IfOk, IsTrue};
+ghost use Rattle.cdb_reader.specs.Plan.{plan_of, reading_from, unless_empty, writing_from};
 ghost use Rattle.cdb_reader.specs.Read.{in_range};
 ghost use Rattle.cdb_reader.specs.Request.{outcome_of, request_of};
 ghost use Rattle.block_machine.specs.Attentions.{attention_met};
-ghost use Rattle.block_machine.specs.Plans.{first_plan, is_medium, plan_asked, plan_with_map};
+ghost use Rattle.block_machine.specs.Plans.{changing, first_plan, is_medium, plan_asked, plan_with_map};
+ghost use Rattle.block_machine.specs.Settings.{settings_made};
 ghost use Rattle.history_replay.specs.Known.{HasPageControl, duty_of, moving_blocks, state_of, syncing_from};
 
 use crate::Known;
@@ -117,18 +118,13 @@ fn plan_asked(
     let capacity = known.capacity;
     let settings = &known.settings;
     match command {
-        Command::TestUnitReady => Ok(Plan::Ending(Reply::good())),
         Command::RequestSense { allocation } => request_sense(alloc, known, i, *allocation),
-        Command::ReassignBlocks { blocks } => moving(alloc, blocks.as_slice()),
         Command::Inquiry {
             evpd,
             page,
             allocation,
         } => inquiry(alloc, *evpd, *page, *allocation),
-        Command::ModeSelect { ten, length } => {
-            let made = made(alloc, settings, capacity, *ten, *length, sent)?;
-            Ok(changing(settings, &made))
-        }
+        Command::ModeSelect { ten, length } => mode_select(alloc, known, *ten, *length, sent),
         Command::ModeSense {
             ten,
             dbd,
@@ -148,16 +144,6 @@ fn plan_asked(
             mode_sense(alloc, settings, capacity, &request)
         }
         Command::ReadCapacity10 => read_capacity_10(alloc, capacity),
-        Command::Read { from, length, fua } => Ok(reading(*from, *length, *fua, settings.per)),
-        Command::Verify { from, length } => Ok(reading(*from, *length, true, settings.per)),
-        Command::Write { from, length, fua } => {
-            let through = !settings.wce || *fua;
-            writing(alloc, *from, *length, sent, through, false, settings.per)
-        }
-        Command::WriteAndVerify { from, length } => {
-            writing(alloc, *from, *length, sent, true, true, settings.per)
-        }
-        Command::SynchronizeCache { from, count } => Ok(syncing(*from, *count)),
         Command::ReadDefectData {
             primary,
             grown,
@@ -172,6 +158,57 @@ fn plan_asked(
         } => log_sense(alloc, known, *page, *subpage, *pointer, *allocation),
         Command::ReadCapacity16 { allocation } => read_capacity_16(alloc, capacity, *allocation),
         Command::ReportLuns { select, allocation } => report_luns(alloc, *select, *allocation),
+        Command::TestUnitReady
+        | Command::ReassignBlocks { .. }
+        | Command::Read { .. }
+        | Command::Verify { .. }
+        | Command::Write { .. }
+        | Command::WriteAndVerify { .. }
+        | Command::SynchronizeCache { .. } => plan_on_blocks(alloc, known, command, sent),
+    }
+}
+
+// New mode values, where they differ from those that hold, or the refusal of their list.
+fn mode_select(
+    alloc: Global,
+    known: &Known,
+    ten: bool,
+    length: u16,
+    sent: &DataOut,
+) -> Result<Plan, NoMemory>
+    ensures { IfOk result (λ plan. plan ≡ changing known.now.settings (settings_made known.now.capacity known.now.settings ten length sent.now)) }
+{
+    let settings = &known.settings;
+    let made = made(alloc, settings, known.capacity, ten, length, sent)?;
+    Ok(changing(settings, &made))
+}
+
+// What a command on the medium asks for, or one that only looks whether it is there.
+fn plan_on_blocks(
+    alloc: Global,
+    known: &Known,
+    command: &Command,
+    sent: &DataOut,
+) -> Result<Plan, NoMemory>
+    requires few { known.now.capacity ≤ 4096 }
+    requires range { IsTrue (in_range (request_of command.now) known.now.capacity) }
+    ensures { IfOk result (λ plan. plan ≡ unwrap_or (plan_of (request_of command.now) sent.now (not known.now.settings.wce) known.now.settings.per) Plan.Over) }
+{
+    let settings = &known.settings;
+    match command {
+        Command::TestUnitReady => Ok(Plan::Ending(Reply::good())),
+        Command::ReassignBlocks { blocks } => moving(alloc, blocks.as_slice()),
+        Command::Read { from, length, fua } => Ok(reading(*from, *length, *fua, settings.per)),
+        Command::Verify { from, length } => Ok(reading(*from, *length, true, settings.per)),
+        Command::Write { from, length, fua } => {
+            let through = !settings.wce || *fua;
+            writing(alloc, *from, *length, sent, through, false, settings.per)
+        }
+        Command::WriteAndVerify { from, length } => {
+            writing(alloc, *from, *length, sent, true, true, settings.per)
+        }
+        Command::SynchronizeCache { from, count } => Ok(syncing(*from, *count)),
+        _ => Ok(Plan::Over),
     }
 }
 

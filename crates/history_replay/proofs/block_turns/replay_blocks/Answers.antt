@@ -1,7 +1,7 @@
 use Rattle.block_machine.specs.Blocks.{blocks_at_start}
 use Rattle.history_replay.specs.Array.{blocks_of}
 use Rattle.history_replay.proofs.Turn.{turns_begin}
-use Rattle.history_replay.proofs.replay.replay_blocks.Goals as goal
+use Rattle.history_replay.proofs.block_turns.replay_blocks.Goals as goal
 
 pub loop-index-init : goal.loop-index-init
 loop-index-init c = (

@@ -3,7 +3,7 @@ use Rattle.std.proofs.Common.{◌≡◌, drop, vec_len}
 use Rattle.block_machine.specs.Blocks.{blocks_at_start}
 use Rattle.history_replay.specs.Array.{blocks_of}
 use Rattle.history_replay.proofs.Turn.{TurnsComeTo}
-use Rattle.history_replay.proofs.replay.replay_blocks.Given as goal
+use Rattle.history_replay.proofs.block_turns.replay_blocks.Given as goal
 
 abbrev pub invariant-loop-index : goal.invariant-loop-index
 invariant-loop-index l =

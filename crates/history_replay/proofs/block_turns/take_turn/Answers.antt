@@ -2,7 +2,7 @@ use Rattle.std.proofs.Common.{◌≡◌, ◌∙◌, ◌<◌, true, length, vec_l
 use Rattle.block_machine.specs.Blocks.{block_lawful}
 use Rattle.history_replay.specs.Array.{blocks_of}
 use Rattle.history_replay.proofs.Turn.{may_here, one_more}
-use Rattle.history_replay.proofs.replay.take_turn.Goals as goal
+use Rattle.history_replay.proofs.block_turns.take_turn.Goals as goal
 
 pub loop-entry-preserved : goal.loop-entry-preserved
 loop-entry-preserved c =

@@ -2,7 +2,7 @@
 use Rattle.std.proofs.Common.{◌≡◌, drop, vec_len}
 use Rattle.history_replay.specs.Array.{blocks_of}
 use Rattle.history_replay.proofs.Turn.{ComesTo}
-use Rattle.history_replay.proofs.replay.take_turn.Given as goal
+use Rattle.history_replay.proofs.block_turns.take_turn.Given as goal
 
 abbrev pub invariant-loop-entry : goal.invariant-loop-entry
 invariant-loop-entry l =

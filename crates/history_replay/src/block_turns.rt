@@ -5,32 +5,11 @@ ghost use Rattle.block_machine.specs.Turns.{blocks_lawful};
 ghost use Rattle.history_replay.specs.Array.{blocks_of};
 ghost use Rattle.history_replay.specs.Replay.{TellsRefused, blocks_left, first_refused};
 
+use crate::ReplayFault;
 use crate::blocks::{apply, blocks_at_start, may_come};
 use block_machine::{Array, BlockState, Entry, Turn};
 use disk_base::NoMemory;
 use std::alloc::Global;
-use thiserror::Error;
-
-/// Why turns couldn't be replayed.
-#[derive(Clone, Copy, Debug, PartialEq, Eq, Error)]
-pub enum ReplayFault {
-    #[error("no memory")]
-    NoMemory,
-    /// The first turn, counted from 1, with an entry that the blocks don't allow.
-    #[error("turn {turn}")]
-    Step { turn: u64 },
-}
-
-impl From<NoMemory> for ReplayFault {
-    ghost use Rattle.std.specs.Prelude.{◌≡◌};
-    ghost use Rattle.history_replay.specs.declared.replay.ReplayFault.TheVariants.{NoMemory};
-
-    ghost from_gives = { λ _ fault. fault ≡ NoMemory };
-
-    fn from(_: NoMemory) -> Self {
-        ReplayFault::NoMemory
-    }
-}
 
 /// The states of an array's blocks after turns, whose commands aren't looked at: an array of so many blocks of zeros allows
 /// each of their entries. Time grows with the entries, but for power cuts and passes of a sync, which take as long as there
@@ -52,8 +31,8 @@ pub fn replay_blocks(alloc: Global, turns: &[Turn], capacity: u64) -> Result<Arr
     Ok(Array::from_vec(blocks))
 }
 
-// Whether the blocks allow the entries of a turn. They are those after it where they do.
-fn take_turn(
+/// Whether the blocks allow the entries of a turn. They are those after it where they do.
+pub fn take_turn(
     alloc: Global,
     blocks: &mut Vec<BlockState>,
     entries: &[Entry],
