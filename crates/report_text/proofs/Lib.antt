@@ -1,0 +1,17 @@
+pub mod TextLemmas
+pub mod TallyLemmas
+pub mod StrayLemmas
+pub mod SenseLemmas
+pub mod FieldLaws
+pub mod EntryLaw
+pub mod OperationLaw
+pub mod LabelLaw
+pub mod Plain
+pub mod MarkLemmas
+pub mod ReadLemmas
+pub mod LineWords
+pub mod SummaryLaw
+pub mod RunLemmas
+pub mod ReportLaw
+pub mod ReadRanges
+pub mod EntryRanges

@@ -1,0 +1,15 @@
+-- The text of a report.
+use Rattle.std.specs.Prelude.{ℕ, List, [], ◌∷◌, ◌++◌, map}
+use Rattle.platter_model.specs.declared.op.Op.{Op}
+use Rattle.block_machine.specs.declared.turn.Turn.{Turn}
+use Rattle.report_text.specs.declared.run.Form.{Form}
+use Rattle.report_text.specs.declared.run.Form.TheVariants.{Whole, Brief}
+use Rattle.report_text.specs.Operations.{shown_of}
+use Rattle.report_text.specs.Turns.{turn_lines}
+use Rattle.report_text.specs.Summary.{summary_text, counts_of}
+
+-- the report of turns and of the operations that they name: in the whole form a line for each turn and the summary, in the
+-- brief one the summary alone
+abbrev pub report_of : Form → List Turn → List Op → List ℕ
+report_of Whole turns ops = turn_lines 1 (map shown_of ops) turns ++ (summary_text (counts_of turns ops) ++ 10 ∷ [])
+report_of Brief turns ops = summary_text (counts_of turns ops) ++ 10 ∷ []
