@@ -69,3 +69,8 @@ next_block plan = []
 abbrev pub owes_block : Plan → ℕ → Bool
 owes_block (Writing w) k = nat_lt k (w.end - w.from)
 owes_block plan k = false
+
+-- the command still writes, and a block comes next
+abbrev pub puts_next : Plan → Bool
+puts_next (Writing w) = nat_lt w.at w.end
+puts_next plan = false

@@ -2,11 +2,11 @@ ghost use Rattle.std.specs.Prelude.{◌≡◌, ℕ, ◌↔◌, ◌+◌, ◌*◌,
 ghost use Rattle.cdb_reader.specs.Plan.{plan_after, block_of};
 ghost use Rattle.cdb_reader.specs.Read.{in_range, has_data, has_length};
 ghost use Rattle.cdb_reader.specs.Request.{request_of};
-ghost use Rattle.command_engine.specs.Course.{course_of, moves_blocks, block_owed, owes_block};
+ghost use Rattle.command_engine.specs.Course.{course_of, moves_blocks, block_owed, owes_block, next_block, puts_next};
 ghost use Rattle.command_engine.specs.Need.{IsBelow, end_of, need_of};
 ghost use Rattle.command_engine.specs.Ending.{ending_of};
 ghost use Rattle.command_engine.specs.Standing.{IsCourse};
-ghost use Rattle.command_engine.specs.Answers.{Known, fits, after, deeds_of, with_page, recovered_after};
+ghost use Rattle.command_engine.specs.Answers.{Known, fits, after, deeds_of, with_page, recovered_after, is_hardened};
 ghost use Rattle.command_engine.specs.Bound.{answers_left};
 
 use crate::beginning::{gives_data, owed_by};
@@ -84,6 +84,20 @@ impl Work {
         self.gives
     }
 
+    /// Whether the block that comes next was hardened for this read, and isn't got yet.
+    pub fn is_hardened(&self) -> bool
+        ensures { result ≡ is_hardened self.now.plan }
+    {
+        match &self.owed {
+            Owed::Reading(reading) => reading.hardened,
+            Owed::Reply(_)
+            | Owed::Page(_)
+            | Owed::Unread(_)
+            | Owed::Writing(_)
+            | Owed::Syncing(_) => false,
+        }
+    }
+
     /// Holds of every command wherever it stands.
     pub fn stands_by_its_plan(&self)
         ensures { IsCourse self.now }
@@ -145,6 +159,21 @@ impl Work {
     {
         match &self.owed {
             Owed::Writing(writing) => block_at(&writing.sent, k, writing.end - writing.from),
+            _ => [0; BLOCK_LENGTH],
+        }
+    }
+
+    /// The data of the block that the command puts next.
+    pub fn next_block(&self) -> Block
+        requires { IsTrue (puts_next self.now.plan) }
+        ensures { result ≡ next_block self.now.plan }
+    {
+        match &self.owed {
+            Owed::Writing(writing) => block_at(
+                &writing.sent,
+                writing.at - writing.from,
+                writing.end - writing.from,
+            ),
             _ => [0; BLOCK_LENGTH],
         }
     }
