@@ -1,0 +1,181 @@
+-- A turn of a drive, from its refusal to the turn that it adds.
+use Rattle.std.proofs.Common.{◌≡◌, ℕ, ◌+◌, ◌-◌, ◌<◌, ◌≤◌, Bool, true, false, not, cond, leb, List, [], ◌∷◌, ◌++◌, length, Option, Some, None, refl, sym, ap, ◌∙◌, subst, arith}
+use Rattle.std.specs.Prelude.{MatchOption, ◌^◌, ◌&&◌, ◌||◌, nat_le, if◌then◌else◌}
+use Rattle.std.specs.List.{list_any}
+use Rattle.std.specs.Option.{option_map_or}
+use Rattle.std.proofs.lemmas.Bool.{cond-true, cond-false, leb-false}
+use Rattle.disk_base.specs.Along.{Along}
+use Rattle.platter_model.specs.declared.op.Op.{Op}
+use Rattle.platter_model.specs.TrueLog.{is_off}
+use Rattle.write_cache.specs.Contents.{Contents}
+use Rattle.task_set.specs.declared.member.Member.{Member}
+use Rattle.task_set.specs.Members.{member_of}
+use Rattle.geometry_map.specs.declared.size.Size.{Size}
+use Rattle.geometry_map.specs.DefectMap.{DefectMap}
+use Rattle.history_replay.specs.declared.known.Known.{Known}
+use Rattle.block_machine.specs.declared.entry.Entry.{Entry}
+use Rattle.block_machine.specs.declared.entry.Entry.TheVariants.{Arrived, Started, Get, Put, Harden, Passed, GiveUp, Page, Ended, Aborted, Asked, Mode, Scanned, Logged, Cut, PoweredOn, Tick, Blank, Fresh}
+use Rattle.block_machine.specs.declared.turn.Label.{Label}
+use Rattle.block_machine.specs.declared.turn.Turn.{Turn}
+use Rattle.block_machine.specs.State.{State}
+use Rattle.block_machine.specs.Steps.{entry_after, begun}
+use Rattle.drive_core.specs.declared.event.Event.{Event}
+use Rattle.drive_core.specs.declared.event.Event.TheVariants as event
+use Rattle.drive_core.specs.declared.answer.Pick.{Pick}
+use Rattle.drive_core.specs.declared.answer.Ended as ended
+use Rattle.drive_core.specs.declared.answer.TurnAnswer.{TurnAnswer}
+use Rattle.drive_core.specs.declared.answer.TurnAnswer.TheVariants as answer
+use Rattle.drive_core.specs.declared.accepted.Accepted.{Accepted}
+use Rattle.drive_core.specs.declared.server.Server.{Server}
+use Rattle.drive_core.specs.declared.turning.Served.{Served}
+use Rattle.drive_core.specs.Scene.{Scene, Beat, capacity}
+use Rattle.drive_core.specs.Evidence.{Shows}
+use Rattle.drive_core.specs.Run.{Run, run_of, scene_of}
+use Rattle.drive_core.specs.Commands.{view, IsStaged}
+use Rattle.drive_core.specs.Accepting.{accepted_of}
+use Rattle.drive_core.specs.Fits.{IsCached, KnowsHistory, Fits}
+use Rattle.drive_core.specs.Kept.{Kept}
+use Rattle.drive_core.specs.Moves.{Moves, IsSameServer, beat}
+use Rattle.drive_core.specs.Able.{refusal, refusal_on, refusal_of_work, work_refused, is_spent, needs_power, picked, nothing_waiting}
+use Rattle.drive_core.specs.Served.{IsServed}
+use Rattle.drive_core.specs.Serving.{MayServe, IsServedTurn}
+use Rattle.drive_core.specs.Turning.{AddsTurn, coming_after, is_scanned}
+use Rattle.drive_core.specs.Ending.{ended_in}
+use Rattle.drive_core.proofs.Pushes.{kept-push}
+
+-- room aside, the parts of a drive fit as before
+pub fits-same : (s : Scene) (old new : Server) → IsSameServer old new → Fits s old → Fits s new
+fits-same s old new same fits = record {
+  store = record {
+    map = same.store.map ∙ fits.store.map;
+    ops = same.store.ops ∙ fits.store.ops;
+    present = fits.store.present;
+    powered = fits.store.powered;
+    unarmed = same.store.armed ∙ fits.store.unarmed;
+    sound = fits.store.sound;
+  };
+  cached = subst (λ (cache : Contents). IsCached s cache) (sym same.store.cache) fits.cached;
+  known = subst (λ (known : Known). KnowsHistory s known) (sym same.known) fits.known;
+  tasks = record { set = same.set ∙ fits.tasks.set; arrived = same.arrived ∙ fits.tasks.arrived; came = fits.tasks.came };
+  staged = λ c. subst (λ (commands : List Accepted). IsStaged (view s c) (accepted_of commands c)) (sym same.commands) (fits.staged c);
+  stands = fits.stands;
+}
+
+pub run-same : (old new : Server) (turns given : List Turn) (coming : ℕ) → given ≡ turns → IsSameServer old new
+    → run_of new.store given coming ≡ run_of old.store turns coming
+run-same old new turns given coming is same = λ i. record {
+  size = (same.store.map i).size;
+  primary = (same.store.map i).primary;
+  turns = is i;
+  ops = same.store.ops i;
+  coming = coming;
+}
+
+pub kept-same : (old new : Server) (turns given : List Turn) (coming : ℕ) → given ≡ turns → IsSameServer old new → Kept (run_of old.store turns coming) old
+    → Kept (run_of new.store given coming) new
+kept-same old new turns given coming is same kept =
+    subst (λ (r : Run). Kept r new) (sym (run-same old new turns given coming is same)) (record {
+      follow = kept.follow;
+      good = kept.good;
+      fits = fits-same (scene_of (run_of old.store turns coming)) old new same kept.fits;
+      numbered = omega (arith, kept.numbered, same.arrived);
+    })
+
+-- what isn't refused may come, however many arrivals are expected
+unasked : {X : Type 0} (f : X → Option TurnAnswer) (o : Option X) (n : ℕ) → option_map_or f o (Some (answer.Idle n)) ≡ None
+    → option_map_or f o (Some (answer.Idle 0)) ≡ None
+unasked f None n is = absurd (cc)
+unasked f (Some x) n is = is
+
+free_at_none : (s : Scene) (n : ℕ) (e : Event) → refusal_on s n e ≡ None → refusal_on s 0 e ≡ None
+free_at_none s n (event.Arrive a) is = is
+free_at_none s n (event.Work c) is = unasked (work_refused s c) (member_of s.hist.set c) n is
+free_at_none s n (event.Job j) is = is
+free_at_none s n (event.Any x) is = unasked (λ (p : Pick). None) (picked s nothing_waiting x) n is
+free_at_none s n event.Scan is = is
+free_at_none s n event.Destage is = is
+free_at_none s n (event.World w) is = is
+
+none_before : (t : Bool) (a : TurnAnswer) (o : Option TurnAnswer) → cond t (Some a) o ≡ None → (t ≡ false) × (o ≡ None)
+none_before true a o is = absurd (cc)
+none_before false a o is = (refl, is)
+
+pub may_serve : (d : Server) (turns : List Turn) (coming : ℕ) (e : Event) → Kept (run_of d.store turns coming) d → IsServed d.store.map.size e
+    → refusal (run_of d.store turns coming) e ≡ None → MayServe (scene_of (run_of d.store turns coming)) d e
+may_serve d turns coming e kept served free =
+    let s : Scene = scene_of (run_of d.store turns coming) in
+    let on = none_before (needs_power e && is_off d.store.platter.ops) answer.Off
+    (cond (is_spent (run_of d.store turns coming)) (Some answer.Spent) (refusal_on (scene_of (run_of d.store turns coming)) coming e)) free in
+    let left = none_before (is_spent (run_of d.store turns coming)) answer.Spent (refusal_on (scene_of (run_of d.store turns coming)) coming e) on.1 in
+    record {
+      fits = kept.fits;
+      served = subst (λ (m : DefectMap). IsServed m.size e) kept.fits.store.map served;
+      free = free_at_none s coming e left.1;
+      numbered = omega (arith, kept.numbered, few (length turns) left.0);
+    }
+  where
+    few : (n : ℕ) → nat_le 4294967294 n ≡ false → n < 4294967294
+    few n is = let less = leb-false 4294967294 n is in omega (arith)
+
+-- no entry of a good turn is one of the scan
+unseen : (s : Scene) (t : Beat) (h : State) (e : Entry) → Shows s t h e → is_scanned e ≡ false
+unseen s t h (Arrived c i tag a cdb sent) shown = refl
+unseen s t h (Started c) shown = refl
+unseen s t h (Get c b v) shown = refl
+unseen s t h (Put c b v) shown = refl
+unseen s t h (Harden who b) shown = refl
+unseen s t h (Passed c from to) shown = refl
+unseen s t h (GiveUp b) shown = refl
+unseen s t h (Page c bytes) shown = refl
+unseen s t h (Ended c reply) shown = refl
+unseen s t h (Aborted c) shown = refl
+unseen s t h (Asked i what) shown = refl
+unseen s t h (Mode settings) shown = refl
+unseen s t h (Scanned b what) shown = absurd shown
+unseen s t h (Logged finding) shown = refl
+unseen s t h Cut shown = refl
+unseen s t h (PoweredOn outcome) shown = refl
+unseen s t h (Tick minutes) shown = refl
+unseen s t h (Blank c) shown = refl
+unseen s t h (Fresh c) shown = refl
+
+pub unscanned : (s : Scene) (t : Beat) (n : ℕ) (l : Label) (h : State) (entries : List Entry) → Along (entry_after n l) (Shows s t) h entries
+    → list_any is_scanned entries ≡ false
+unscanned s t n l h [] shown = refl
+unscanned s t n l h (e ∷ rest) shown =
+    ap (λ (b : Bool). b || list_any is_scanned rest) (unseen s t h e shown.0)
+    ∙ unscanned s t n l (entry_after n l h e) rest shown.1
+
+-- the turn that is added
+pub adds-turn : (old new : Server) (turns given : List Turn) (coming number : ℕ) (e : Event) (t : Turn) (made : Served)
+    → IsServedTurn (scene_of (run_of old.store turns coming)) e old new t.entries made → Kept (run_of old.store turns coming) old → t.label ≡ made.label
+    → given ≡ turns ++ t ∷ [] → number ≡ length given
+    → AddsTurn (run_of old.store turns coming) e (answer.Done number made.ended false) (run_of new.store given (coming_after coming e))
+adds-turn old new turns given coming number e t made served kept label is counted =
+    let s : Scene = scene_of (run_of old.store turns coming) in
+    let map_is : new.store.map ≡ old.store.map = served.moves.fits.store.map ∙ sym kept.fits.store.map in
+    let scans : list_any is_scanned t.entries ≡ false =
+    unscanned s (beat made.label t.entries served.moves.ops) (capacity s) made.label (begun s.hist made.label) t.entries served.moves.good.shown in
+    record {
+      turn = t;
+      turns = is;
+      label = served.label ∙ ap Some (sym label);
+      arrival = served.arrival;
+      size = ap (λ (m : DefectMap). m.size) map_is;
+      primary = ap (λ (m : DefectMap). m.primary) map_is;
+      coming = refl;
+      answered = λ i. answer.Done (counted i) (served.moves.ended i) (sym scans i);
+    }
+
+pub kept-after : (old new : Server) (turns given : List Turn) (coming next : ℕ) (e : Event) (t : Turn) (made : Served)
+    → IsServedTurn (scene_of (run_of old.store turns coming)) e old new t.entries made → Kept (run_of old.store turns coming) old → t.label ≡ made.label
+    → t.ops_from ≡ length old.store.platter.ops → t.ops_to ≡ length new.store.platter.ops → given ≡ turns ++ t ∷ [] → Kept (run_of new.store given next) new
+kept-after old new turns given coming next e t made served kept label from to is =
+    subst (λ (ts : List Turn). Kept (run_of new.store ts next) new) (sym is)
+    (kept-push old new turns coming next t made.ended kept
+    (subst (λ (l : Label). Moves l (scene_of (run_of old.store turns coming)) old new t.entries made.ended) (sym label) served.moves) from to)
+
+pub given_turn : (e : Event) (refused : Option TurnAnswer) (old : Run) (given : TurnAnswer) (new : Run) → refused ≡ None → AddsTurn old e given new
+    → MatchOption refused (AddsTurn old e given new) (λ answered. (given ≡ answered) × (new ≡ old))
+given_turn e refused old given new none adds =
+    subst (λ (r : Option TurnAnswer). MatchOption r (AddsTurn old e given new) (λ answered. (given ≡ answered) × (new ≡ old))) (sym none) adds

@@ -1,0 +1,152 @@
+-- The parts of a drive fit again after a turn of work.
+use Rattle.std.proofs.Common.{◌≡◌, ◌≢◌, ℕ, ◌≤◌, List, [], ◌∷◌, ◌++◌, Option, Some, None, refl, sym, ap, ◌∙◌, subst}
+use Rattle.std.specs.Prelude.{fold, All}
+use Rattle.std.proofs.lemmas.List.Sums.{fold_push}
+use Rattle.std.proofs.lemmas.List.Elements.{All-filter}
+use Rattle.platter_model.specs.declared.op.Op.{Op}
+use Rattle.sense_data.specs.declared.reply.Reply.{Reply}
+use Rattle.task_set.specs.declared.member.Member.{Member}
+use Rattle.task_set.specs.Members.{member_of, without}
+use Rattle.cdb_reader.specs.declared.plan.Plan.{Plan}
+use Rattle.history_replay.specs.declared.known.Known.{Known}
+use Rattle.block_machine.specs.declared.entry.Entry.{Entry}
+use Rattle.block_machine.specs.declared.entry.Entry.TheVariants.{Ended}
+use Rattle.block_machine.specs.declared.turn.Label.TheVariants.{Work}
+use Rattle.block_machine.specs.Blocks.{is_dirty}
+use Rattle.block_machine.specs.State.{State}
+use Rattle.block_machine.specs.Steps.{begun, entry_after}
+use Rattle.drive_core.specs.declared.accepted.Accepted.{Accepted}
+use Rattle.drive_core.specs.declared.server.Server.{Server}
+use Rattle.drive_core.specs.Scene.{Scene, capacity, scene_after, settings_by, recovered_by, windows_with, window_after}
+use Rattle.drive_core.specs.Holds.{held_block}
+use Rattle.drive_core.specs.Accepting.{accepted_of, Replaces}
+use Rattle.drive_core.specs.Commands.{view, IsStaged}
+use Rattle.drive_core.specs.GoodTurn.{IsStood}
+use Rattle.drive_core.specs.Fits.{HasOps, IsCached, KnowsHistory, HasTasks, Fits}
+use Rattle.drive_core.specs.Moves.{beat}
+use Rattle.drive_core.proofs.Tables.{put_at-other}
+use Rattle.drive_core.proofs.Keyed.{find-dropped_own, find-dropped_other}
+use Rattle.drive_core.proofs.Elsewhere.{IsAlike, staged-alike, all_staged}
+use Rattle.drive_core.proofs.Halves.{Half, IsQuiet}
+
+-- the scene after half a turn
+abbrev pub after_half : Scene → ℕ → List Op → List Entry → Scene
+after_half s c ops entries = scene_after s (beat (Work c) entries ops)
+
+-- and after the command's end
+abbrev pub after_end : Scene → ℕ → List Op → List Entry → Reply → Scene
+after_end s c ops entries reply = scene_after s (beat (Work c) (entries ++ Ended c reply ∷ []) ops)
+
+-- mode values, attentions and the scan stay known where the history keeps them
+pub known-quiet : (s t : Scene) (known : Known) → t.map ≡ s.map → t.hist.settings ≡ s.hist.settings → t.hist.waiting ≡ s.hist.waiting → t.hist.corrupt ≡ s.hist.corrupt
+    → t.hist.scan ≡ s.hist.scan → KnowsHistory s known → KnowsHistory t known
+known-quiet s t known map settings waiting corrupt scan k = record {
+  capacity = k.capacity ∙ ap (λ m. capacity (record s { map = m })) (sym map);
+  settings = k.settings ∙ sym settings;
+  retry = subst (λ x. x.retry ≤ 20) (sym settings) k.retry;
+  waiting = k.waiting ∙ sym waiting;
+  unwarned = waiting ∙ k.unwarned;
+  corrupt = k.corrupt ∙ sym corrupt;
+  readable = corrupt ∙ k.readable;
+  scan = k.scan ∙ sym scan;
+}
+
+-- other commands after half a turn
+pub alike-half : (s : Scene) (c : ℕ) (ops : List Op) (entries : List Entry) (h : State) (plan : Plan) → Half s c ops entries h plan
+    → (q : ℕ) → q ≢ c → IsAlike s (after_half s c ops entries) q
+alike-half s c ops entries h plan half q other = record {
+  map = refl;
+  member = ap (λ (x : State). member_of x.set q) half.reached ∙ ap (λ (set : List Member). member_of set q) half.quiet.set;
+  duty = ap (λ (x : State). x.duties q) half.reached ∙ half.quiet.duties q other;
+  window = put_at-other c q (window_after c (s.windows c) (beat (Work c) entries ops)) s.windows other;
+  settings = ap (λ f. f q) half.settings;
+  recovered = half.recovered q other;
+  dirty = λ n holds. ap (λ (x : State). is_dirty (x.blocks n)) half.reached ∙ half.undirtied q n other holds;
+}
+
+-- what a half turn's scene has of the history
+pub fits_on : (s : Scene) (c : ℕ) (ops : List Op) (entries : List Entry) (h : State) (plan : Plan) (d e : Server) (a : Accepted) → Half s c ops entries h plan
+    → Fits s d → e.set ≡ d.set → e.arrived ≡ d.arrived → e.known ≡ d.known → Replaces d.commands.items e.commands.items c a
+    → HasOps (after_half s c ops entries) e.store → IsCached (after_half s c ops entries) e.store.cache → IsStaged (view (after_half s c ops entries) c) (Some a)
+    → Fits (after_half s c ops entries) e
+fits_on s c ops entries h plan d e a half fits set_is arrived_is known_is replaces has_ops cached own =
+    let t : Scene = after_half s c ops entries in
+    let set : t.hist.set ≡ s.hist.set = ap (λ (x : State). x.set) half.reached ∙ half.quiet.set in
+    let arrived : t.hist.arrived ≡ s.hist.arrived = ap (λ (x : State). x.arrived) half.reached ∙ half.quiet.arrived in
+    record {
+      store = has_ops;
+      cached = cached;
+      known = subst (λ (k : Known). KnowsHistory (after_half s c ops entries) k) (sym known_is) (known-quiet s (after_half s c ops entries) d.known refl
+          (ap (λ (x : State). x.settings) half.reached ∙ half.quiet.settings) (ap (λ (x : State). x.waiting) half.reached ∙ half.quiet.waiting)
+          (ap (λ (x : State). x.corrupt) half.reached ∙ half.quiet.corrupt) (ap (λ (x : State). x.scan) half.reached ∙ half.quiet.scan) fits.known);
+      tasks = record {
+        set = set_is ∙ (fits.tasks.set ∙ sym set);
+        arrived = arrived_is ∙ (fits.tasks.arrived ∙ sym arrived);
+        came = subst (λ (n : ℕ). All (λ (m : Member). m.task.c ≤ n) t.hist.set) (sym arrived)
+            (subst (λ (ms : List Member). All (λ (m : Member). m.task.c ≤ s.hist.arrived) ms) (sym set) fits.tasks.came);
+      };
+      staged = all_staged (after_half s c ops entries) e.commands.items c
+          (subst (λ (o : Option Accepted). IsStaged (view (after_half s c ops entries) c) o) (sym replaces.own) own)
+          (λ q other. staged-alike s (after_half s c ops entries) q (accepted_of d.commands.items q) (accepted_of e.commands.items q)
+          (alike-half s c ops entries h plan half q other) (replaces.others q other) (fits.staged q));
+      stands = subst (λ (x : State). IsStood s.map (s.ops ++ ops) x.blocks) (sym half.reached) half.stands;
+    }
+
+-- a drive without a command that ended
+pub record IsLeft (d e : Server) (c : ℕ) : Type 0 where
+  pub set : e.set ≡ without d.set c
+  pub own : accepted_of e.commands.items c ≡ None
+  pub others : (q : ℕ) → q ≢ c → accepted_of e.commands.items q ≡ accepted_of d.commands.items q
+  pub arrived : e.arrived ≡ d.arrived
+  pub known : e.known ≡ d.known
+
+-- the history after the end
+pub reached-end : (s : Scene) (c : ℕ) (ops : List Op) (entries : List Entry) (h : State) (plan : Plan) (reply : Reply) → Half s c ops entries h plan
+    → (after_end s c ops entries reply).hist ≡ entry_after (capacity s) (Work c) h (Ended c reply)
+reached-end s c ops entries h plan reply half =
+    fold_push (entry_after (capacity s) (Work c)) (begun s.hist (Work c)) entries (Ended c reply)
+    ∙ ap (λ (x : State). entry_after (capacity s) (Work c) x (Ended c reply)) half.reached
+
+alike-end : (s : Scene) (c : ℕ) (ops : List Op) (entries : List Entry) (h : State) (plan : Plan) (reply : Reply) → Half s c ops entries h plan
+    → (q : ℕ) → q ≢ c → IsAlike s (after_end s c ops entries reply) q
+alike-end s c ops entries h plan reply half q other =
+    let reached = reached-end s c ops entries h plan reply half in
+    record {
+      map = refl;
+      member = ap (λ (x : State). member_of x.set q) reached ∙ (find-dropped_other (λ (m : Member). m.task.c) c q h.set other
+          ∙ ap (λ (set : List Member). member_of set q) half.quiet.set);
+      duty = ap (λ (x : State). x.duties q) reached ∙ (put_at-other c q _ h.duties other ∙ half.quiet.duties q other);
+      window = put_at-other c q (window_after c (s.windows c) (beat (Work c) (entries ++ Ended c reply ∷ []) ops)) s.windows other;
+      settings = ap (λ f. f q) (fold_push (settings_by s.hist.settings) s.settings entries (Ended c reply) ∙ half.settings);
+      recovered = ap (λ f. f q) (fold_push (recovered_by (windows_with (Work c) s.windows ops)) s.recovered entries (Ended c reply)) ∙ half.recovered q other;
+      dirty = λ n holds. ap (λ (x : State). is_dirty (x.blocks n)) reached ∙ half.undirtied q n other holds;
+    }
+
+pub fits_end : (s : Scene) (c : ℕ) (ops : List Op) (entries : List Entry) (h : State) (plan : Plan) (reply : Reply) (d e : Server) → Half s c ops entries h plan
+    → Fits s d → IsLeft d e c → HasOps (after_end s c ops entries reply) e.store → IsCached (after_end s c ops entries reply) e.store.cache
+    → Fits (after_end s c ops entries reply) e
+fits_end s c ops entries h plan reply d e half fits left has_ops cached =
+    let t : Scene = after_end s c ops entries reply in
+    let reached : t.hist ≡ entry_after (capacity s) (Work c) h (Ended c reply) = reached-end s c ops entries h plan reply half in
+    let set : t.hist.set ≡ without s.hist.set c = ap (λ (x : State). x.set) reached ∙ ap (λ (ms : List Member). without ms c) half.quiet.set in
+    let arrived : t.hist.arrived ≡ s.hist.arrived = ap (λ (x : State). x.arrived) reached ∙ half.quiet.arrived in
+    let gone : member_of t.hist.set c ≡ None = ap (λ (ms : List Member). member_of ms c) set ∙ find-dropped_own (λ (m : Member). m.task.c) c s.hist.set in
+    record {
+      store = has_ops;
+      cached = cached;
+      known = subst (λ (k : Known). KnowsHistory (after_end s c ops entries reply) k) (sym left.known) (known-quiet s (after_end s c ops entries reply) d.known refl
+          (ap (λ (x : State). x.settings) reached ∙ half.quiet.settings) (ap (λ (x : State). x.waiting) reached ∙ half.quiet.waiting)
+          (ap (λ (x : State). x.corrupt) reached ∙ half.quiet.corrupt) (ap (λ (x : State). x.scan) reached ∙ half.quiet.scan) fits.known);
+      tasks = record {
+        set = left.set ∙ (ap (λ (ms : List Member). without ms c) fits.tasks.set ∙ sym set);
+        arrived = left.arrived ∙ (fits.tasks.arrived ∙ sym arrived);
+        came = subst (λ (n : ℕ). All (λ (m : Member). m.task.c ≤ n) t.hist.set) (sym arrived)
+            (subst (λ (ms : List Member). All (λ (m : Member). m.task.c ≤ s.hist.arrived) ms) (sym set)
+            (All-filter _ (λ (m : Member). m.task.c ≤ s.hist.arrived) s.hist.set fits.tasks.came));
+      };
+      staged = all_staged (after_end s c ops entries reply) e.commands.items c
+          (subst (λ (o : Option Accepted). IsStaged (view (after_end s c ops entries reply) c) o) (sym left.own) gone)
+          (λ q other. staged-alike s (after_end s c ops entries reply) q (accepted_of d.commands.items q) (accepted_of e.commands.items q)
+          (alike-end s c ops entries h plan reply half q other) (left.others q other) (fits.staged q));
+      stands = subst (λ (x : State). IsStood s.map (s.ops ++ ops) x.blocks) (sym reached) half.stands;
+    }

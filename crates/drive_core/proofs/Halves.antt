@@ -1,0 +1,158 @@
+-- Half a turn of work: after some entries the command owes a plan. Then it goes on, or ends.
+use Rattle.std.proofs.Common.{◌≡◌, ◌≢◌, ℕ, ◌+◌, ◌<◌, Bool, true, false, not, cond, eqb, List, [], ◌∷◌, ◌++◌, length, Option, Some, None, refl, sym, ap, ◌∙◌, subst, arith, length-append}
+use Rattle.std.specs.Prelude.{◌&&◌, ◌||◌, fold, IsTrue}
+use Rattle.std.specs.List.{list_any, list_all}
+use Rattle.std.specs.Option.{option_and_then, option_map, is_some}
+use Rattle.std.proofs.lemmas.Bool.{eq-eqb, ne_eqb, or_right}
+use Rattle.std.proofs.lemmas.List.{append-nil}
+use Rattle.std.proofs.lemmas.List.Sums.{fold_push}
+use Rattle.std.proofs.lemmas.List.Folds.{list_any-append, list_all-append}
+use Rattle.disk_base.specs.Along.{Along, all_along}
+use Rattle.disk_base.specs.declared.address.Lba.{Lba}
+use Rattle.platter_model.specs.declared.op.Op.{Op}
+use Rattle.platter_model.specs.TrueLog.{strays}
+use Rattle.sense_data.specs.declared.reply.Reply.{Reply}
+use Rattle.task_set.specs.Members.{member_of}
+use Rattle.cdb_reader.specs.declared.plan.Plan.{Plan}
+use Rattle.cdb_reader.specs.declared.plan.Deed.TheVariants as deed
+use Rattle.cdb_reader.specs.Plan.{next}
+use Rattle.block_machine.specs.declared.entry.Entry.{Entry}
+use Rattle.block_machine.specs.declared.entry.Entry.TheVariants.{Ended}
+use Rattle.block_machine.specs.declared.turn.Label.TheVariants.{Work}
+use Rattle.block_machine.specs.Blocks.{is_dirty, blocks_after, block_lawful}
+use Rattle.block_machine.specs.State.{State, Duty, owed_by}
+use Rattle.block_machine.specs.Steps.{begun, entry_after, entries_after}
+use Rattle.block_machine.specs.Deeds.{names_dirty}
+use Rattle.block_machine.specs.Entries.{entry_lawful, ends_as_told}
+use Rattle.block_machine.specs.Turns.{is_start, is_end, starts_alone, owes_nothing_now, blocks_lawful}
+use Rattle.block_machine.proofs.Alongs.{along_both}
+use Rattle.block_machine.proofs.Booleans.{and_both}
+use Rattle.geometry_map.specs.DefectMap.{place_of}
+use Rattle.drive_core.specs.Scene.{Scene, capacity, scene_after, settings_by, recovered_by, windows_with}
+use Rattle.drive_core.specs.Holds.{held_block, holder_besides}
+use Rattle.drive_core.specs.Evidence.{Shows, IsEndShown}
+use Rattle.drive_core.specs.GoodTurn.{GoodTurn, IsStood, IsOnOneBlock, are_on, is_on, is_about, is_at_sector, is_one_step}
+use Rattle.drive_core.specs.Moves.{beat}
+use Rattle.drive_core.proofs.Tables.{Along-push, put_at-other}
+use Rattle.drive_core.proofs.Keyed.{find-dropped_own, find-dropped_other}
+use Rattle.drive_core.proofs.Elsewhere.{IsAlike}
+
+-- a state differs from another in blocks and in one command's duty alone
+pub record IsQuiet (g h : State) (c : ℕ) : Type 0 where
+  pub arrived : h.arrived ≡ g.arrived
+  pub set : h.set ≡ g.set
+  pub duties : (q : ℕ) → q ≢ c → h.duties q ≡ g.duties q
+  pub asks : (h.duties c).asks ≡ (g.duties c).asks
+  pub settings : h.settings ≡ g.settings
+  pub waiting : h.waiting ≡ g.waiting
+  pub corrupt : h.corrupt ≡ g.corrupt
+  pub scan : h.scan ≡ g.scan
+
+-- after these entries of a turn of work, all of which may come and are shown, the history has this state, and the command owes
+-- this plan
+pub record Half (s : Scene) (c : ℕ) (ops : List Op) (entries : List Entry) (h : State) (plan : Plan) : Type 0 where
+  pub reached : entries_after (capacity s) (Work c) (begun s.hist (Work c)) entries ≡ h
+  pub quiet : IsQuiet s.hist h c
+  pub unstarted : list_any is_start entries ≡ false
+  pub lawful : all_along (entry_after (capacity s) (Work c)) (entry_lawful (capacity s) (Work c)) (begun s.hist (Work c)) entries ≡ true
+  pub owes : owed_by h c ≡ Some plan
+  pub blocks : strays (s.ops ++ ops) ≡ 0 → blocks_lawful (capacity s) s.hist.blocks entries ≡ true
+  pub shown : (rest : List Entry)
+      → Along (entry_after (capacity s) (Work c)) (Shows s (beat (Work c) (entries ++ rest) ops)) (begun s.hist (Work c)) entries
+  pub step : is_one_step ops ≡ true
+  pub b : Lba
+  pub one_block : are_on b entries ≡ true
+  pub held : (q : Lba) → q.0 < capacity s → is_about s (beat (Work c) entries ops) q ≡ true → holder_besides s c q.0 ≡ None
+  pub stands : IsStood s.map (s.ops ++ ops) h.blocks
+  pub settings : fold (settings_by s.hist.settings) s.settings entries ≡ s.settings
+  pub recovered : (q : ℕ) → q ≢ c → fold (recovered_by (windows_with (Work c) s.windows ops)) s.recovered entries q ≡ s.recovered q
+  -- the blocks that others hold are dirty where they were
+  pub undirtied : (q n : ℕ) → q ≢ c → held_block s q ≡ Some n → is_dirty (h.blocks n) ≡ is_dirty (s.hist.blocks n)
+
+-- a turn without a start
+alone : (entries : List Entry) → list_any is_start entries ≡ false → starts_alone entries ≡ true
+alone entries none = ap (λ (b : Bool). not b || eqb (length entries) 1 || list_any is_end entries) none
+
+three : (a b c : Bool) → a ≡ true → b ≡ true → c ≡ true → (a && b && c) ≡ true
+three a b c ai bi ci = and_both (a && b) c (and_both a b ai bi) ci
+
+-- the command goes on, and owes work on blocks
+pub goes_on : (s : Scene) (c : ℕ) (ops : List Op) (entries : List Entry) (h : State) (plan : Plan) → Half s c ops entries h plan
+    → owes_nothing_now (Some plan) ≡ true → (not (eqb (length ops) 0) || not (eqb (length entries) 0)) ≡ true
+    → GoodTurn s (beat (Work c) entries ops)
+goes_on s c ops entries h plan half settled acts = record {
+  tasks = three (starts_alone entries) _ _ (alone entries half.unstarted) half.lawful
+      (ap (λ (x : State). owes_nothing_now (owed_by x c)) half.reached ∙ (ap owes_nothing_now half.owes ∙ settled));
+  blocks = half.blocks;
+  shown = subst (λ (es : List Entry). Along (entry_after (capacity s) (Work c)) (Shows s (beat (Work c) es ops)) (begun s.hist (Work c)) entries)
+      (append-nil entries) (half.shown []);
+  step = (half.step, acts);
+  one_block = (half.b, half.one_block);
+  held = half.held;
+  stands = subst (λ (x : State). IsStood s.map (s.ops ++ ops) x.blocks) (sym half.reached) half.stands;
+}
+
+-- the end of a command that is owed
+pub end_lawful : (capacity : ℕ) (h : State) (c : ℕ) (plan later : Plan) (reply : Reply) → owed_by h c ≡ Some plan
+    → next plan (deed.Ended reply (names_dirty h reply)) ≡ Some later → ends_as_told (Some plan) (h.duties c) reply ≡ true
+    → entry_lawful capacity (Work c) h (Ended c reply) ≡ true
+end_lawful capacity h c plan later reply owes may told =
+    three (eqb c c) (is_some (option_and_then (λ (p : Plan). next p (deed.Ended reply (names_dirty h reply))) (owed_by h c))) _
+    (eq-eqb c c refl)
+    (ap (λ (o : Option Plan). is_some (option_and_then (λ (p : Plan). next p (deed.Ended reply (names_dirty h reply))) o)) owes ∙ ap is_some may)
+    (ap (λ (o : Option Plan). ends_as_told o (h.duties c) reply) owes ∙ told)
+
+-- a command that ended owes nothing
+pub over_owes : (capacity : ℕ) (h : State) (c : ℕ) (reply : Reply) → owed_by (entry_after capacity (Work c) h (Ended c reply)) c ≡ None
+over_owes capacity h c reply =
+    ap (λ o. option_and_then (λ m. ((entry_after capacity (Work c) h (Ended c reply)).duties c).owes) o)
+    (find-dropped_own (λ m. m.task.c) c h.set)
+
+or_false : (b : Bool) → (b || false) ≡ b
+or_false true = refl
+or_false false = refl
+
+not_empty : (entries : List Entry) (e : Entry) → not (eqb (length (entries ++ e ∷ [])) 0) ≡ true
+not_empty entries e = ap not (ne_eqb (length (entries ++ e ∷ [])) 0 (λ none. absurd (omega (arith, length-append entries (e ∷ [])))))
+
+-- an end is on no block
+end_about : (s : Scene) (c : ℕ) (ops : List Op) (entries : List Entry) (q : Lba) (reply : Reply)
+    → is_about s (beat (Work c) (entries ++ Ended c reply ∷ []) ops) q ≡ is_about s (beat (Work c) entries ops) q
+end_about s c ops entries q reply =
+    ap (λ (b : Bool). b || list_any (is_at_sector (place_of s.map q)) ops)
+    (list_any-append (is_on q) entries (Ended c reply ∷ []) ∙ or_false (list_any (is_on q) entries))
+
+-- the command ends
+pub ends : (s : Scene) (c : ℕ) (ops : List Op) (entries : List Entry) (h : State) (plan later : Plan) (reply : Reply) → Half s c ops entries h plan
+    → next plan (deed.Ended reply (names_dirty h reply)) ≡ Some later → ends_as_told (Some plan) (h.duties c) reply ≡ true
+    → IsEndShown s (beat (Work c) (entries ++ Ended c reply ∷ []) ops) c (Some plan) reply
+    → GoodTurn s (beat (Work c) (entries ++ Ended c reply ∷ []) ops)
+ends s c ops entries h plan later reply half may told end_shown =
+    let step : State → Entry → State = entry_after (capacity s) (Work c) in
+    let start : State = begun s.hist (Work c) in
+    let more : List Entry = Ended c reply ∷ [] in
+    let reached : entries_after (capacity s) (Work c) (begun s.hist (Work c)) (entries ++ Ended c reply ∷ []) ≡ entry_after (capacity s) (Work c) h (Ended c reply) =
+    fold_push (entry_after (capacity s) (Work c)) (begun s.hist (Work c)) entries (Ended c reply)
+    ∙ ap (λ (x : State). entry_after (capacity s) (Work c) x (Ended c reply)) half.reached in
+    let unstarted : list_any is_start (entries ++ Ended c reply ∷ []) ≡ false =
+    list_any-append is_start entries (Ended c reply ∷ []) ∙ ap (λ (b : Bool). b || false) half.unstarted in
+    let last : entry_lawful (capacity s) (Work c) h (Ended c reply) ≡ true = end_lawful (capacity s) h c plan later reply half.owes may told in
+    let lawful : all_along (entry_after (capacity s) (Work c)) (entry_lawful (capacity s) (Work c)) (begun s.hist (Work c)) (entries ++ Ended c reply ∷ []) ≡ true =
+    along_both (entry_after (capacity s) (Work c)) (entry_lawful (capacity s) (Work c)) (begun s.hist (Work c)) entries (Ended c reply ∷ [])
+    ∙ and_both _ _ half.lawful (and_both (entry_lawful (capacity s) (Work c) (entries_after (capacity s) (Work c) (begun s.hist (Work c)) entries) (Ended c reply)) true
+    (ap (λ (x : State). entry_lawful (capacity s) (Work c) x (Ended c reply)) half.reached ∙ last) refl) in
+    let settled : owes_nothing_now (owed_by (entries_after (capacity s) (Work c) (begun s.hist (Work c)) (entries ++ Ended c reply ∷ [])) c) ≡ true =
+    ap (λ (x : State). owes_nothing_now (owed_by x c)) reached ∙ ap owes_nothing_now (over_owes (capacity s) h c reply) in
+    let Shown : State → Type 0 = λ x. Shows s (beat (Work c) (entries ++ Ended c reply ∷ []) ops) x (Ended c reply) in
+    let here : Shown h = subst (λ (o : Option Plan). IsEndShown s (beat (Work c) (entries ++ Ended c reply ∷ []) ops) c o reply) (sym half.owes) end_shown in
+    record {
+      tasks = three (starts_alone (entries ++ Ended c reply ∷ [])) _ _ (alone (entries ++ Ended c reply ∷ []) unstarted) lawful settled;
+      blocks = λ none. along_both blocks_after (block_lawful (capacity s)) s.hist.blocks entries (Ended c reply ∷ [])
+          ∙ and_both _ _ (half.blocks none) refl;
+      shown = Along-push (entry_after (capacity s) (Work c)) (Shows s (beat (Work c) (entries ++ Ended c reply ∷ []) ops)) (begun s.hist (Work c)) entries (Ended c reply)
+          (half.shown (Ended c reply ∷ [])) (subst Shown (sym half.reached) here);
+      step = (half.step, or_right _ _ (not_empty entries (Ended c reply)));
+      one_block = (half.b, list_all-append _ entries (Ended c reply ∷ []) ∙ and_both _ _ half.one_block refl);
+      held = λ q below about. half.held q below (sym (end_about s c ops entries q reply) ∙ about);
+      stands = subst (λ (x : State). IsStood s.map (s.ops ++ ops) x.blocks) (sym reached) half.stands;
+    }

@@ -1,0 +1,141 @@
+-- A turn that hardens a block moves the parts of a drive.
+use Rattle.std.proofs.Common.{◌≡◌, ◌≢◌, ℕ, ◌+◌, ◌<◌, ◌≤◌, ◌^◌, Bool, true, false, not, cond, eqb, ltb, List, [], ◌∷◌, ◌++◌, length, Option, Some, None, refl, sym, ap, ◌∙◌, subst, arith}
+use Rattle.std.specs.Prelude.{◌&&◌, ◌||◌, fold}
+use Rattle.std.specs.List.{list_any}
+use Rattle.std.specs.Option.{option_and_then, option_map_or}
+use Rattle.std.proofs.lemmas.Bool.{eq-eqb, lt-ltb, or_right}
+use Rattle.std.proofs.lemmas.List.Sums.{fold-append}
+use Rattle.disk_base.specs.declared.address.Lba.{Lba}
+use Rattle.disk_base.specs.declared.address.Psn.{Psn}
+use Rattle.disk_base.specs.declared.block.Value.TheVariants.{Data}
+use Rattle.disk_base.specs.declared.payload.Payload.{Payload}
+use Rattle.platter_model.specs.declared.op.Op.{Op}
+use Rattle.platter_model.specs.declared.op.Op.TheVariants.{Wrote}
+use Rattle.platter_model.specs.Sector.{is_faulty, faulty_after}
+use Rattle.platter_model.specs.State as platter
+use Rattle.platter_model.specs.TrueLog.{is_off, is_unpowered, supply_after, powered, strays}
+use Rattle.geometry_map.specs.DefectMap.{DefectMap}
+use Rattle.sector_store.specs.State.{Contained, placed}
+use Rattle.sector_store.specs.Stored.{stored}
+use Rattle.sense_data.specs.declared.reply.Reply.{Reply}
+use Rattle.task_set.specs.declared.member.Member.{Member}
+use Rattle.task_set.specs.Members.{member_of}
+use Rattle.write_cache.specs.Contents.{newest}
+use Rattle.cdb_reader.specs.declared.plan.Plan.{Plan}
+use Rattle.cdb_reader.specs.declared.plan.Plan.TheVariants.{Over}
+use Rattle.cdb_reader.specs.declared.plan.Deed.TheVariants as deed
+use Rattle.cdb_reader.specs.Plan.{next}
+use Rattle.block_machine.specs.declared.entry.Entry.{Entry}
+use Rattle.block_machine.specs.declared.entry.Entry.TheVariants.{Ended}
+use Rattle.block_machine.specs.declared.turn.Label.TheVariants.{Work}
+use Rattle.block_machine.specs.Blocks.{Blocks, is_dirty, without_address}
+use Rattle.block_machine.specs.State.{State}
+use Rattle.block_machine.specs.Steps.{entry_after}
+use Rattle.block_machine.specs.Deeds.{names_dirty}
+use Rattle.block_machine.specs.Entries.{ends_as_told}
+use Rattle.block_machine.specs.Turns.{owes_nothing_now}
+use Rattle.drive_core.specs.declared.accepted.Accepted.{Accepted}
+use Rattle.drive_core.specs.declared.server.Server.{Server}
+use Rattle.drive_core.specs.declared.answer.Ended as told_end
+use Rattle.drive_core.specs.Scene.{Scene, capacity}
+use Rattle.drive_core.specs.Commands.{view, IsCommand}
+use Rattle.drive_core.specs.Ending.{ended_in, ended_of_member}
+use Rattle.drive_core.specs.Evidence.{IsEndShown}
+use Rattle.drive_core.specs.Fits.{IsPresentMap, HasOps, IsCached, Fits}
+use Rattle.drive_core.specs.Hardening.{Hardens}
+use Rattle.drive_core.specs.Moves.{Moves, beat}
+use Rattle.drive_core.proofs.Tables.{put_at-own, put_at-other}
+use Rattle.drive_core.proofs.Halves.{Half, goes_on, ends}
+use Rattle.drive_core.proofs.Fitting.{after_half, after_end, fits_on, fits_end, reached-end}
+use Rattle.drive_core.proofs.Closing.{Goes, Stops, has_ops, moves_on, moves_end}
+use Rattle.drive_core.proofs.HardenTurns.{IsHarden, hardened_blocks, hardened-newest, dirty-newest, unstrayed}
+use Rattle.drive_core.proofs.HardenParts.{IsAfterHarden, cached_hardened}
+
+-- a write leaves the power and the write faults as they were
+pub off-written : (ops : List Op) (payload : Payload) → is_off (ops ++ Wrote payload ∷ []) ≡ is_off ops
+off-written ops payload = ap is_unpowered (fold-append supply_after powered ops (Wrote payload ∷ []))
+
+pub faults-written : (ops : List Op) (payload : Payload) (p : Psn) → is_faulty p (ops ++ Wrote payload ∷ []) ≡ is_faulty p ops
+faults-written ops payload p = fold-append (faulty_after p) false ops (Wrote payload ∷ [])
+
+-- what a turn that hardens a block begins with, and what it leaves of the store
+pub record IsHardenTurn (s : Scene) (d e : Server) (c : ℕ) (b : Lba) (bytes : List ℕ) : Type 0 where
+  pub fits : Fits s d
+  pub is : IsHarden s c b bytes
+  pub held : newest b d.store.cache ≡ Some bytes
+  pub hardens : Hardens d.store b bytes e.store
+
+-- the operation of the turn
+abbrev pub op_of : Scene → Lba → List ℕ → Op
+op_of s b bytes = Wrote (placed s.map b bytes)
+
+module _ (s : Scene) (d e : Server) (c : ℕ) (b : Lba) (bytes : List ℕ) (turn : IsHardenTurn s d e c b bytes) where
+  added : e.store.platter.ops ≡ d.store.platter.ops ++ op_of s b bytes ∷ []
+  added = ap (λ (x : platter.State). x.ops) turn.hardens.platter
+      ∙ ap (λ (m : DefectMap). d.store.platter.ops ++ Wrote (placed m b bytes) ∷ []) turn.fits.store.map
+
+  -- the map is there after it
+  present : IsPresentMap s.map (s.ops ++ op_of s b bytes ∷ [])
+  present =
+      let at_store : IsPresentMap d.store.map e.store.platter.ops =
+      turn.hardens.present (subst (λ (m : DefectMap). m.number < 2 ^ 63) (sym turn.fits.store.map) turn.fits.store.present.number) in
+      let at_map : IsPresentMap s.map e.store.platter.ops = subst (λ (m : DefectMap). IsPresentMap m e.store.platter.ops) turn.fits.store.map at_store in
+      subst (λ (ops : List Op). IsPresentMap s.map ops) (added ∙ ap (λ (ops : List Op). ops ++ op_of s b bytes ∷ []) turn.fits.store.ops) at_map
+
+  -- the store of a scene with its operation
+  has : (t : Scene) → t.map ≡ s.map → t.ops ≡ s.ops ++ op_of s b bytes ∷ [] → HasOps t e.store
+  has t map_is ops_is =
+      has_ops s t d.store e.store (op_of s b bytes ∷ []) turn.fits.store map_is ops_is turn.hardens.map added
+      (ap (λ (x : platter.State). x.armed) turn.hardens.platter) (off-written s.ops (placed s.map b bytes)) (faults-written s.ops (placed s.map b bytes))
+      (subst (λ (ops : List Op). IsPresentMap e.store.map ops) (sym (added ∙ ap (λ (ops : List Op). ops ++ op_of s b bytes ∷ []) turn.fits.store.ops))
+      (subst (λ (m : DefectMap). IsPresentMap m (s.ops ++ op_of s b bytes ∷ [])) (sym (turn.hardens.map ∙ turn.fits.store.map)) present))
+
+  after_scene : (t : Scene) (more : List Entry) → t.map ≡ s.map → t.ops ≡ s.ops ++ op_of s b bytes ∷ [] → t.since ≡ s.since ++ op_of s b bytes ∷ []
+      → t.entries ≡ s.entries ++ more → t.hist.blocks ≡ hardened_blocks s b → t.hist.dirty ≡ without_address b.0 s.hist.dirty → IsAfterHarden s t b bytes
+  after_scene t more map_is ops_is since_is entries_are blocks_are order = record {
+    map = map_is;
+    own = ap (λ (f : Blocks). f b.0) blocks_are ∙ (put_at-own b.0 _ s.hist.blocks ∙ hardened-newest (s.hist.blocks b.0) (Data bytes) turn.is.newest);
+    others = λ q other. ap (λ (f : Blocks). f q) blocks_are ∙ put_at-other b.0 q _ s.hist.blocks other;
+    order = order;
+    more_entries = more;
+    entries = entries_are;
+    more_ops = op_of s b bytes ∷ [];
+    since = since_is;
+    unstrayed = λ none. unstrayed s.ops (op_of s b bytes) (ap strays (sym ops_is) ∙ none);
+    stores = (λ i. stored (map_is i) (ops_is i) b) ∙ turn.is.stores s.map present.may_be;
+    keeps = λ q below other. (λ i. stored (map_is i) (ops_is i) q) ∙ turn.is.keeps s.map present.may_be q below other;
+  }
+
+  -- and its cache
+  cached : (t : Scene) (more : List Entry) → t.map ≡ s.map → t.ops ≡ s.ops ++ op_of s b bytes ∷ [] → t.since ≡ s.since ++ op_of s b bytes ∷ []
+      → t.entries ≡ s.entries ++ more → t.hist.blocks ≡ hardened_blocks s b → t.hist.dirty ≡ without_address b.0 s.hist.dirty → IsCached t e.store.cache
+  cached t more map_is ops_is since_is entries_are blocks_are order =
+      cached_hardened s t b bytes d.store.cache e.store.cache (after_scene t more map_is ops_is since_is entries_are blocks_are order) turn.is.below
+      (dirty-newest (s.hist.blocks b.0) (Data bytes) turn.is.newest) turn.held turn.hardens.cache turn.fits.cached
+
+  module _ (half entries : List Entry) (h : State) (plan : Plan) (told : Option told_end.Ended) (is : Half s c (op_of s b bytes ∷ []) half h plan)
+      (blocks_are : h.blocks ≡ hardened_blocks s b) (order : h.dirty ≡ without_address b.0 s.hist.dirty) where
+    -- the command goes on
+    pub harden_on : (a : Accepted) → owes_nothing_now (Some plan) ≡ true → None ≡ ended_in s half
+        → IsCommand (view (after_half s c (op_of s b bytes ∷ []) half) c) a → Goes d e c a half entries told → Moves (Work c) s d e entries told
+    harden_on a settled none own goes =
+        let t : Scene = after_half s c (op_of s b bytes ∷ []) half in
+        moves_on s c (op_of s b bytes ∷ []) half entries h plan d e a told is
+        (goes_on s c (op_of s b bytes ∷ []) half h plan is settled refl)
+        (fits_on s c (op_of s b bytes ∷ []) half h plan d e a is turn.fits goes.set goes.arrived goes.known goes.replaces (has t refl refl)
+        (cached t half refl refl refl refl (ap (λ (x : State). x.blocks) is.reached ∙ blocks_are) (ap (λ (x : State). x.dirty) is.reached ∙ order)) own)
+        goes added none
+
+    -- or ends
+    pub harden_ends : (reply : Reply) → next plan (deed.Ended reply (names_dirty h reply)) ≡ Some Over → ends_as_told (Some plan) (h.duties c) reply ≡ true
+        → IsEndShown s (beat (Work c) (half ++ Ended c reply ∷ []) (op_of s b bytes ∷ [])) c (Some plan) reply
+        → ended_of_member (member_of s.hist.set c) reply ≡ ended_in s (half ++ Ended c reply ∷ []) → Stops d e c reply half entries told
+        → Moves (Work c) s d e entries told
+    harden_ends reply may told_so shown ended stops =
+        let t : Scene = after_end s c (op_of s b bytes ∷ []) half reply in
+        let reached : t.hist ≡ entry_after (capacity s) (Work c) h (Ended c reply) = reached-end s c (op_of s b bytes ∷ []) half h plan reply is in
+        moves_end s c (op_of s b bytes ∷ []) half entries h plan d e reply told is
+        (ends s c (op_of s b bytes ∷ []) half h plan Over reply is may told_so shown)
+        (fits_end s c (op_of s b bytes ∷ []) half h plan reply d e is turn.fits stops.left (has t refl refl)
+        (cached t (half ++ Ended c reply ∷ []) refl refl refl refl (ap (λ (x : State). x.blocks) reached ∙ blocks_are) (ap (λ (x : State). x.dirty) reached ∙ order)))
+        stops turn.fits added ended

@@ -1,0 +1,271 @@
+-- What the commands that are served begin with: the blocks that each works on, and its plan.
+use Rattle.std.proofs.Common.{◌≡◌, ◌≢◌, ℕ, ◌+◌, ◌≤◌, ◌<◌, Bool, true, false, not, cond, eqb, leb, List, [], ◌∷◌, Option, Some, None, refl, sym, ap, ◌∙◌, subst, arith}
+use Rattle.std.specs.Prelude.{◌^◌, ◌&&◌, ◌||◌, unwrap_or, IsTrue, Result, Ok, Err}
+use Rattle.std.specs.Option.{option_map_or}
+use Rattle.sense_data.specs.Sense.{sense_of}
+use Rattle.std.proofs.lemmas.Bool.{eqb-false, leb-true, le-leb, and_parts}
+use Rattle.disk_base.specs.declared.command.DataOut.{DataOut}
+use Rattle.disk_base.specs.declared.command.DataOut.TheVariants.{Nothing}
+use Rattle.sense_data.specs.declared.sense.Sense.{Sense}
+use Rattle.sense_data.specs.Attentions.{none_waiting}
+use Rattle.mode_pages.specs.declared.settings.Settings.{Settings}
+use Rattle.read_recovery.specs.Stages as progress
+use Rattle.cdb_reader.specs.declared.command.Command.{Command}
+use Rattle.cdb_reader.specs.declared.plan.Plan.{Plan}
+use Rattle.cdb_reader.specs.declared.plan.Plan.TheVariants.{Ending, Reading, Writing, Syncing, Over}
+use Rattle.cdb_reader.specs.Plan.{unless_empty, reading_from, writing_from}
+use Rattle.cdb_reader.specs.Read.{in_range, has_data}
+use Rattle.cdb_reader.specs.Replies.{good}
+use Rattle.cdb_reader.specs.Request.{Request, Read, Write, WriteAndVerify, Verify, SynchronizeCache, request_of}
+use Rattle.cdb_reader.specs.Request as request
+use Rattle.command_engine.specs.declared.step.Step.TheVariants.{Trying}
+use Rattle.command_engine.specs.Course.{Course, course_of, gives_data, moves_blocks, plan_without_blocks}
+use Rattle.command_engine.specs.Need.{end_of}
+use Rattle.block_machine.specs.declared.entry.Entry.{Entry}
+use Rattle.block_machine.specs.declared.entry.Entry.TheVariants.{Started}
+use Rattle.block_machine.specs.declared.turn.Label.TheVariants.{Work}
+use Rattle.block_machine.specs.Plans.{first_plan, plan_unless_refused, plan_asked, refusing, is_medium}
+use Rattle.block_machine.specs.State.{State, Duty, initiator_of}
+use Rattle.block_machine.specs.Turns.{owes_nothing_now}
+use Rattle.block_machine.proofs.Booleans.{and_both}
+use Rattle.drive_core.specs.declared.accepted.Accepted.{Accepted}
+use Rattle.drive_core.specs.declared.server.Server.{Server}
+use Rattle.drive_core.specs.declared.answer.Ended as told_end
+use Rattle.drive_core.specs.declared.starting.First.{First}
+use Rattle.drive_core.specs.declared.starting.First.TheVariants as first_variant
+use Rattle.drive_core.specs.Scene.{Scene, capacity}
+use Rattle.drive_core.specs.Accepting.{under_way, Replaces}
+use Rattle.drive_core.specs.Commands.{View, IsAtBlock, IsOwnRange, IsOwnRecovery}
+use Rattle.drive_core.specs.Holds.{held_by_plan}
+use Rattle.drive_core.specs.Moves.{Moves, MayWork}
+use Rattle.drive_core.specs.Served.{is_served, is_served_plan}
+use Rattle.drive_core.specs.Starting.{IsFirst}
+use Rattle.task_set.specs.Members.{with_started}
+use Rattle.drive_core.proofs.FirstPlans.{not_met, tells}
+use Rattle.drive_core.proofs.StartTurns.{MayStart, may_start, IsStartOf, BeginsWork, begins_with_work, plan_of_start, not_empty, few_blocks, first_read, starts_working}
+
+-- a request that works on blocks which it names by a range
+pub data IsOnBlocks : Request → Type 0 where
+  reads : (from count : ℕ) (fua : Bool) → IsOnBlocks (Read from count fua)
+  writes : (from count : ℕ) (fua : Bool) → IsOnBlocks (Write from count fua)
+  writes_verified : (from count : ℕ) → IsOnBlocks (WriteAndVerify from count)
+  verifies : (from count : ℕ) → IsOnBlocks (Verify from count)
+  syncs : (from count : ℕ) → IsOnBlocks (SynchronizeCache from count)
+
+-- what is served is such a request
+on_blocks : (r : Request) → is_served (Ok r) ≡ true → IsOnBlocks r
+on_blocks (Read from count fua) served = reads from count fua
+on_blocks (Write from count fua) served = writes from count fua
+on_blocks (WriteAndVerify from count) served = writes_verified from count
+on_blocks (Verify from count) served = verifies from count
+on_blocks (SynchronizeCache from count) served = syncs from count
+on_blocks request.TestUnitReady served = absurd (cc)
+on_blocks (request.RequestSense allocation) served = absurd (cc)
+on_blocks (request.ReassignBlocks blocks) served = absurd (cc)
+on_blocks (request.Inquiry evpd page allocation) served = absurd (cc)
+on_blocks (request.ModeSelect ten count) served = absurd (cc)
+on_blocks (request.ModeSense ten dbd control page subpage allocation) served = absurd (cc)
+on_blocks request.ReadCapacity10 served = absurd (cc)
+on_blocks (request.ReadDefectData primary grown format allocation) served = absurd (cc)
+on_blocks (request.LogSense page subpage pointer allocation) served = absurd (cc)
+on_blocks (request.ReadCapacity16 allocation) served = absurd (cc)
+on_blocks (request.ReportLuns select allocation) served = absurd (cc)
+
+-- how many blocks it names
+abbrev count_of : Request → ℕ
+count_of (Read from count fua) = count
+count_of (Write from count fua) = count
+count_of (WriteAndVerify from count) = count
+count_of (Verify from count) = count
+count_of (SynchronizeCache from count) = count
+count_of other = 0
+
+-- its plan, by its data and the mode values, where it names a block
+abbrev work_plan : Request → DataOut → Settings → Plan
+work_plan (Read from count fua) sent x = reading_from from (from + count) fua x.per
+work_plan (Write from count fua) sent x = writing_from from count sent (not x.wce || fua) false x.per
+work_plan (WriteAndVerify from count) sent x = writing_from from count sent true true x.per
+work_plan (Verify from count) sent x = reading_from from (from + count) true x.per
+work_plan (SynchronizeCache from count) sent x = Syncing (record { at = from; end = from + count })
+work_plan other sent x = Over
+
+-- a command that needs the medium begins with what it asks for, while nothing waits and the map is there
+plan_medium : (capacity i : ℕ) (h : State) (duty : Duty) (request : Request) → h.waiting ≡ none_waiting → h.corrupt ≡ false → duty.asks ≡ Ok request → is_medium request ≡ true
+    → first_plan capacity h i duty ≡ plan_asked capacity h i duty.sent request
+plan_medium capacity i h duty request none readable asks medium =
+    ap (λ (o : Option Sense). option_map_or refusing o (plan_unless_refused capacity h i duty.sent duty.asks)) (not_met h.waiting i duty.code none)
+    ∙ (ap (plan_unless_refused capacity h i duty.sent) asks
+    ∙ (λ j. cond (readable j && medium j) (refusing (sense_of 3 0x31 0x00)) (plan_asked capacity h i duty.sent request)))
+
+-- by the history
+first_by_history : (blocks i : ℕ) (h : State) (duty : Duty) (r : Request) → IsOnBlocks r → h.waiting ≡ none_waiting → h.corrupt ≡ false → duty.asks ≡ Ok r
+    → first_plan blocks h i duty ≡ unwrap_or (unless_empty (count_of r) (work_plan r duty.sent h.settings)) Over
+first_by_history blocks i h duty r (reads from count fua) none readable asks = plan_medium blocks i h duty (Read from count fua) none readable asks refl
+first_by_history blocks i h duty r (writes from count fua) none readable asks = plan_medium blocks i h duty (Write from count fua) none readable asks refl
+first_by_history blocks i h duty r (writes_verified from count) none readable asks = plan_medium blocks i h duty (WriteAndVerify from count) none readable asks refl
+first_by_history blocks i h duty r (verifies from count) none readable asks = plan_medium blocks i h duty (Verify from count) none readable asks refl
+first_by_history blocks i h duty r (syncs from count) none readable asks = plan_medium blocks i h duty (SynchronizeCache from count) none readable asks refl
+
+settled : (r : Request) (sent : DataOut) (x : Settings) → IsOnBlocks r → owes_nothing_now (Some (work_plan r sent x)) ≡ true
+settled r sent x (reads from count fua) = refl
+settled r sent x (writes from count fua) = refl
+settled r sent x (writes_verified from count) = refl
+settled r sent x (verifies from count) = refl
+settled r sent x (syncs from count) = refl
+
+unheld : (r : Request) (sent : DataOut) (x : Settings) → IsOnBlocks r → held_by_plan [] (work_plan r sent x) ≡ None
+unheld r sent x (reads from count fua) = refl
+unheld r sent x (writes from count fua) = refl
+unheld r sent x (writes_verified from count) = refl
+unheld r sent x (verifies from count) = refl
+unheld r sent x (syncs from count) = refl
+
+plan_served : (r : Request) (sent : DataOut) (x : Settings) → IsOnBlocks r → is_served_plan (work_plan r sent x) ≡ true
+plan_served r sent x (reads from count fua) = refl
+plan_served r sent x (writes from count fua) = refl
+plan_served r sent x (writes_verified from count) = refl
+plan_served r sent x (verifies from count) = refl
+plan_served r sent x (syncs from count) = refl
+
+unmoved : (r : Request) → IsOnBlocks r → moves_blocks r ≡ false
+unmoved r (reads from count fua) = refl
+unmoved r (writes from count fua) = refl
+unmoved r (writes_verified from count) = refl
+unmoved r (verifies from count) = refl
+unmoved r (syncs from count) = refl
+
+at_first : (r : Request) (sent : DataOut) (x : Settings) → IsOnBlocks r → eqb (count_of r) 0 ≡ false → (v : View) → v.window ≡ [] → v.settings ≡ x
+    → v.holds_dirty ≡ false → IsAtBlock v (work_plan r sent x) (Trying (progress.begun x.retry))
+at_first r sent x (reads from count fua) some v window same clean =
+    let least : count ≢ 0 = eqb-false count 0 some in
+    first_read v (record { at = from; end = from + count; through = fua; reports = x.per; hardened = false }) x (omega arith) window same clean
+at_first r sent x (writes from count fua) some v window same clean = let least : count ≢ 0 = eqb-false count 0 some in (window, omega arith)
+at_first r sent x (writes_verified from count) some v window same clean = let least : count ≢ 0 = eqb-false count 0 some in (window, omega arith)
+at_first r sent x (verifies from count) some v window same clean =
+    let least : count ≢ 0 = eqb-false count 0 some in
+    first_read v (record { at = from; end = from + count; through = true; reports = x.per; hardened = false }) x (omega arith) window same clean
+at_first r sent x (syncs from count) some v window same clean = let least : count ≢ 0 = eqb-false count 0 some in (window, omega arith)
+
+-- it ends within the drive
+within : (from count blocks : ℕ) → (leb (from + count) blocks && leb count 256) ≡ true → from + count ≤ blocks
+within from count blocks range = leb-true (from + count) blocks (and_parts (leb (from + count) blocks) (leb count 256) range).0
+
+ends_within : (r : Request) (sent : DataOut) (x : Settings) (blocks : ℕ) → IsOnBlocks r → in_range r blocks ≡ true → end_of (work_plan r sent x) ≤ blocks
+ends_within r sent x blocks (reads from count fua) range = within from count blocks range
+ends_within r sent x blocks (writes from count fua) range = within from count blocks range
+ends_within r sent x blocks (writes_verified from count) range = within from count blocks range
+ends_within r sent x blocks (verifies from count) range = within from count blocks range
+ends_within r sent x blocks (syncs from count) range = leb-true (from + count) blocks range
+
+more : (from count low high : ℕ) → low ≤ high → (leb (from + count) low && leb count 256) ≡ true → (leb (from + count) high && leb count 256) ≡ true
+more from count low high up range =
+    let parts = and_parts (leb (from + count) low) (leb count 256) range in
+    let below : from + count ≤ low = leb-true (from + count) low parts.0 in
+    and_both (leb (from + count) high) (leb count 256) (le-leb (from + count) high (omega arith)) parts.1
+
+-- and so within a greater one
+range_up : (r : Request) (low high : ℕ) → IsOnBlocks r → low ≤ high → in_range r low ≡ true → in_range r high ≡ true
+range_up r low high (reads from count fua) up range = more from count low high up range
+range_up r low high (writes from count fua) up range = more from count low high up range
+range_up r low high (writes_verified from count) up range = more from count low high up range
+range_up r low high (verifies from count) up range = more from count low high up range
+range_up r low high (syncs from count) up range =
+    let below : from + count ≤ low = leb-true (from + count) low range in le-leb (from + count) high (omega arith)
+
+-- the blocks that it gets are its own
+own_range : (asks : Result Request Sense) (r : Request) (sent : DataOut) (x : Settings) → IsOnBlocks r → asks ≡ Ok r → IsOwnRange asks (work_plan r sent x)
+own_range asks r sent x (reads from count fua) asks_is = λ recovery low high.
+    subst (λ (y : Result Request Sense). IsOwnRecovery y (Some recovery)) (sym asks_is) (tells recovery.stage.how recovery.stage.offset from (from + count) recovery.b.0 low high)
+own_range asks r sent x (writes from count fua) asks_is = λ is. let never : false ≡ true = is in absurd (cc)
+own_range asks r sent x (writes_verified from count) asks_is = λ is recovery low high.
+    subst (λ (y : Result Request Sense). IsOwnRecovery y (Some recovery)) (sym asks_is) (tells recovery.stage.how recovery.stage.offset from (from + count) recovery.b.0 low high)
+own_range asks r sent x (verifies from count) asks_is = λ recovery low high.
+    subst (λ (y : Result Request Sense). IsOwnRecovery y (Some recovery)) (sym asks_is) (tells recovery.stage.how recovery.stage.offset from (from + count) recovery.b.0 low high)
+own_range asks r sent x (syncs from count) asks_is = tt
+
+-- a command that begins to work on blocks
+pub record BeginsOn (s : Scene) (d : Server) (c : ℕ) (r : Request) : Type 0 where
+  pub may : MayStart s d c
+  pub on : IsOnBlocks r
+  pub asks : (s.hist.duties c).asks ≡ Ok r
+  pub plan_is : plan_of_start s c ≡ work_plan r (s.hist.duties c).sent s.hist.settings
+  pub some : eqb (count_of r) 0 ≡ false
+  pub range : in_range r (capacity s) ≡ true
+  pub with_data : has_data r (s.hist.duties c).sent ≡ true
+
+pub begins_on : (s : Scene) (d : Server) (c : ℕ) (command : Command) (first : First) → MayWork s d c → under_way d.commands.items c ≡ None → IsFirst s c first
+    → first ≡ first_variant.Work command → BeginsOn s d c (request_of command)
+begins_on s d c command first work none is first_is =
+    let may : MayStart s d c = may_start s d c work none in
+    let begins : BeginsWork (capacity s) (plan_of_start s c) (s.hist.duties c).asks (s.hist.duties c).sent (request_of command) =
+    begins_with_work (capacity s) (plan_of_start s c) (s.hist.duties c).asks (s.hist.duties c).sent command (subst (IsFirst s c) first_is is) in
+    let on : IsOnBlocks (request_of command) = on_blocks (request_of command) (sym (ap is_served begins.is_for.asked) ∙ may.waiting.served) in
+    let by_rule : plan_of_start s c ≡ unwrap_or (unless_empty (count_of (request_of command)) (work_plan (request_of command) (s.hist.duties c).sent s.hist.settings)) Over =
+    first_by_history (capacity s) (initiator_of s.hist c) s.hist (s.hist.duties c) (request_of command) on work.fits.known.unwarned work.fits.known.readable begins.is_for.asked in
+    let some : eqb (count_of (request_of command)) 0 ≡ false =
+    not_empty (count_of (request_of command)) (plan_of_start s c) (work_plan (request_of command) (s.hist.duties c).sent s.hist.settings) by_rule begins.work in
+    record {
+      may = may;
+      on = on;
+      asks = begins.is_for.asked;
+      plan_is = by_rule ∙ ap (λ (b : Bool). unwrap_or (cond b (Some (Ending good)) (Some (work_plan (request_of command) (s.hist.duties c).sent s.hist.settings))) Over) some;
+      some = some;
+      range = begins.is_for.range;
+      with_data = begins.is_for.data_sent;
+    }
+
+pub range_on : (s : Scene) (d : Server) (c : ℕ) (r : Request) → BeginsOn s d c r → in_range r (2 ^ 32) ≡ true
+range_on s d c r is = let few : capacity s ≤ 4096 = few_blocks s in range_up r (capacity s) (2 ^ 32) is.on (omega arith) is.range
+
+pub unmoved_on : (s : Scene) (d : Server) (c : ℕ) (r : Request) → BeginsOn s d c r → moves_blocks r ≡ false
+unmoved_on s d c r is = unmoved r is.on
+
+-- the data that came with it
+pub sent_on : (s : Scene) (d : Server) (c : ℕ) (r : Request) (sent : DataOut) → (is : BeginsOn s d c r) → sent ≡ is.may.a.sent → sent ≡ (s.hist.duties c).sent
+sent_on s d c r sent is out = out ∙ sym is.may.waiting.sent
+
+-- where it stands then
+first_by_engine : (r : Request) (sent : DataOut) (x : Settings) → IsOnBlocks r
+    → course_of r sent x ≡ record {
+      settings = x;
+      gives = gives_data r;
+      plan = unwrap_or (unless_empty (count_of r) (work_plan r sent x)) (plan_without_blocks r);
+      step = Trying (progress.begun x.retry);
+      recovered = None;
+    }
+first_by_engine r sent x (reads from count fua) = refl
+first_by_engine r sent x (writes from count fua) = refl
+first_by_engine r sent x (writes_verified from count) = refl
+first_by_engine r sent x (verifies from count) = refl
+first_by_engine r sent x (syncs from count) = refl
+
+course_on : (s : Scene) (d : Server) (c : ℕ) (r : Request) (sent : DataOut) (settings : Settings) (w : Course) → BeginsOn s d c r → settings ≡ s.hist.settings
+    → sent ≡ (s.hist.duties c).sent → w ≡ course_of r sent settings
+    → w ≡ record {
+      settings = s.hist.settings;
+      gives = gives_data r;
+      plan = work_plan r (s.hist.duties c).sent s.hist.settings;
+      step = Trying (progress.begun s.hist.settings.retry);
+      recovered = None;
+    }
+course_on s d c r sent settings w is settings_is sent_is w_is =
+    w_is ∙ ((λ i. course_of r (sent_is i) (settings_is i)) ∙ (first_by_engine r (s.hist.duties c).sent s.hist.settings is.on
+    ∙ ap (λ (b : Bool). record {
+      settings = s.hist.settings;
+      gives = gives_data r;
+      plan = unwrap_or (cond b (Some (Ending good)) (Some (work_plan r (s.hist.duties c).sent s.hist.settings))) (plan_without_blocks r);
+      step = Trying (progress.begun s.hist.settings.retry);
+      recovered = None;
+    }) is.some))
+
+-- its first turn
+pub starts_on : (s : Scene) (d e : Server) (c : ℕ) (r : Request) (sent : DataOut) (settings : Settings) (w : Course) (entries : List Entry) (told : Option told_end.Ended)
+    → (on : BeginsOn s d c r) → (is : IsStartOf s d e c) → settings ≡ s.hist.settings → sent ≡ (s.hist.duties c).sent → w ≡ course_of r sent settings
+    → e.set ≡ with_started d.set c → Replaces d.commands.items e.commands.items c (record is.may.a { sent = Nothing; work = Some w })
+    → entries ≡ Started c ∷ [] → told ≡ None → Moves (Work c) s d e entries told
+starts_on s d e c r sent settings w entries told on is settings_is sent_is w_is =
+    starts_working s d e c is w entries told (gives_data r) (work_plan r (s.hist.duties c).sent s.hist.settings) on.plan_is
+    (settled r (s.hist.duties c).sent s.hist.settings on.on) (at_first r (s.hist.duties c).sent s.hist.settings on.on on.some)
+    (unheld r (s.hist.duties c).sent s.hist.settings on.on) (ends_within r (s.hist.duties c).sent s.hist.settings (capacity s) on.on on.range)
+    (own_range (s.hist.duties c).asks r (s.hist.duties c).sent s.hist.settings on.on on.asks) (plan_served r (s.hist.duties c).sent s.hist.settings on.on)
+    (course_on s d c r sent settings w on settings_is sent_is w_is)

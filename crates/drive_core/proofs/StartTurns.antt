@@ -1,0 +1,458 @@
+-- The first turn of work on a command.
+use Rattle.std.proofs.Common.{◌≡◌, ◌≢◌, ℕ, ◌+◌, ◌≤◌, ◌<◌, Bool, true, false, not, cond, eqb, leb, List, [], ◌∷◌, ◌++◌, length, map, Option, Some, None, refl, sym, ap, ◌∙◌, subst, arith, append-nil}
+use Rattle.std.specs.Prelude.{◌^◌, ◌&&◌, ◌||◌, ◌==◌, All, unwrap_or, slice_index, IsTrue, IsSome, IfOk, Result, Ok, Err}
+use Rattle.std.specs.Option.{option_and_then, option_map, option_map_or, is_none, is_some}
+use Rattle.std.proofs.lemmas.Bool.{eq-eqb, ne_eqb, eqb-true, eqb-false, leb-true, le-leb, and_parts}
+use Rattle.std.proofs.lemmas.List.Elements.{All-map, All-weaker, All-filter}
+use Rattle.platter_model.specs.declared.op.Op.{Op}
+use Rattle.sense_data.specs.declared.reply.Reply.{Reply}
+use Rattle.task_set.specs.declared.member.Member.{Member}
+use Rattle.task_set.specs.Members.{IsIn, member_of, with_started, started_at, without, first_forbidding}
+use Rattle.cdb_reader.specs.declared.plan.Plan.{Plan}
+use Rattle.cdb_reader.specs.declared.command.Command.{Command}
+use Rattle.cdb_reader.specs.declared.plan.Plan.TheVariants.{Ending, Unread, Answering, Changing, Reading, Writing, Syncing, Moving, Over}
+use Rattle.cdb_reader.specs.declared.plan.Deed.TheVariants as deed
+use Rattle.cdb_reader.specs.Plan.{next, unless_empty, reading_from}
+use Rattle.cdb_reader.specs.Read.{in_range, read_of}
+use Rattle.cdb_reader.specs.Replies.{good}
+use Rattle.cdb_reader.specs.Request.{Request, Read, request_of}
+use Rattle.cdb_reader.specs.Request as request
+use Rattle.sense_data.specs.declared.sense.Sense.{Sense}
+use Rattle.history_replay.specs.Known.{state_of, duty_of}
+use Rattle.drive_core.specs.declared.starting.First.{First}
+use Rattle.drive_core.specs.declared.starting.First.TheVariants as first_variant
+use Rattle.drive_core.specs.Starting.{IsWorkFor, BeginsBy, IsFirstBy, IsFirst}
+use Rattle.read_recovery.specs.Stages as progress
+use Rattle.read_recovery.proofs.Table.{plain_stage}
+use Rattle.mode_pages.specs.declared.settings.Settings.{Settings}
+use Rattle.history_replay.specs.declared.known.Known.{Known}
+use Rattle.geometry_map.specs.DefectMap.{DefectMap}
+use Rattle.platter_model.specs.Sector.{is_faulty}
+use Rattle.platter_model.specs.TrueLog.{is_off}
+use Rattle.sector_store.specs.State.{Contained}
+use Rattle.disk_base.specs.declared.command.DataOut.{DataOut}
+use Rattle.disk_base.specs.declared.command.DataOut.TheVariants.{Nothing}
+use Rattle.command_engine.specs.declared.step.Step.TheVariants.{Trying}
+use Rattle.command_engine.specs.Course.{Course, course_of, plan_without_blocks}
+use Rattle.block_machine.specs.declared.entry.Entry.{Entry}
+use Rattle.block_machine.specs.declared.entry.Entry.TheVariants.{Started, Ended}
+use Rattle.block_machine.specs.declared.turn.Label.TheVariants.{Work}
+use Rattle.block_machine.specs.State.{State, Duty, initiator_of, owed_by}
+use Rattle.block_machine.specs.Steps.{begun, entry_after, waiting_at_start}
+use Rattle.block_machine.specs.Plans.{first_plan}
+use Rattle.block_machine.specs.Blocks.{is_dirty}
+use Rattle.block_machine.specs.Deeds.{names_dirty}
+use Rattle.block_machine.specs.Entries.{entry_lawful}
+use Rattle.block_machine.specs.Turns.{owes_nothing_now}
+use Rattle.block_machine.proofs.Booleans.{and_both}
+use Rattle.drive_core.specs.declared.accepted.Accepted.{Accepted}
+use Rattle.drive_core.specs.declared.server.Server.{Server}
+use Rattle.drive_core.specs.declared.answer.TurnAnswer.TheVariants as answer
+use Rattle.drive_core.specs.declared.answer.Ended as told_end
+use Rattle.drive_core.specs.Ending.{ended_of_member}
+use Rattle.drive_core.specs.Evidence.{lba, IsEndShown}
+use Rattle.drive_core.specs.GoodTurn.{IsStood}
+use Rattle.drive_core.specs.Served.{is_served, is_served_plan}
+use Rattle.command_engine.specs.Need.{end_of}
+use Rattle.cdb_reader.specs.declared.plan.Reading as reading
+use Rattle.drive_core.specs.Scene.{Scene, capacity, scene_after, window_after, last_found}
+use Rattle.drive_core.specs.Able.{refusal_of_work, held_by_other, work_refused}
+use Rattle.drive_core.specs.Holds.{held_block, held_by_plan, needed_block}
+use Rattle.drive_core.specs.Accepting.{accepted_of, under_way, Replaces, Drops}
+use Rattle.drive_core.specs.Commands.{View, view, IsStaged, IsCommand, IsUnderWay, IsWaiting, IsWorking, IsAtBlock, IsTrying, IsOwnRange}
+use Rattle.drive_core.specs.Fits.{Fits, HasOps, IsCached, IsPresentMap, KnowsHistory}
+use Rattle.drive_core.specs.Moves.{Moves, MayWork, beat}
+use Rattle.drive_core.proofs.Tables.{put_at-own, put_at-other}
+use Rattle.drive_core.proofs.Keyed.{find-dropped_own, find-dropped_other}
+use Rattle.drive_core.proofs.Elsewhere.{staged-alike, all_staged}
+use Rattle.drive_core.proofs.Halves.{end_lawful, over_owes}
+use Rattle.drive_core.proofs.Parts.{cached_got, quiet_got}
+use Rattle.drive_core.proofs.Fitting.{known-quiet}
+use Rattle.drive_core.proofs.Closing.{has_ops}
+use Rattle.drive_core.proofs.GetTurns.{begun-duty}
+use Rattle.drive_core.proofs.FirstPlans.{none_taken, same_reply-own}
+
+-- a command that may start
+pub record MayStart (s : Scene) (d : Server) (c : ℕ) : Type 0 where
+  pub m : Member
+  pub is_in : member_of s.hist.set c ≡ Some m
+  pub a : Accepted
+  pub a_is : accepted_of d.commands.items c ≡ Some a
+  pub works : a.work ≡ None
+  pub waiting : IsWaiting (view s c) m a
+  pub free : first_forbidding s.hist.set m.task ≡ None
+
+not_dormant : (o : Option ℕ) → option_map answer.Dormant o ≡ None → o ≡ None
+not_dormant None is = refl
+not_dormant (Some x) is = absurd (cc)
+
+by_accepted : (s : Scene) (d : Server) (c : ℕ) (o : Option Accepted) → accepted_of d.commands.items c ≡ o → IsStaged (view s c) o → option_and_then (λ (a : Accepted). a.work) o ≡ None
+    → refusal_of_work s 0 c ≡ None → MayStart s d c
+by_accepted s d c None o_is staged none free =
+    let refused : Some (answer.Idle 0) ≡ None = sym (ap (λ (x : Option Member). option_map_or (work_refused s c) x (Some (answer.Idle 0))) staged) ∙ free in
+    absurd (cc)
+by_accepted s d c (Some a) o_is staged none free =
+    let waiting : IsWaiting (view s c) staged.member a = subst (λ (x : Option Course). IsUnderWay (view s c) staged.member a x) none staged.under_way in
+    let refused : work_refused s c staged.member ≡ None = sym (ap (λ (x : Option Member). option_map_or (work_refused s c) x (Some (answer.Idle 0))) staged.is_in) ∙ free in
+    record {
+      m = staged.member;
+      is_in = staged.is_in;
+      a = a;
+      a_is = o_is;
+      works = none;
+      waiting = waiting;
+      free = not_dormant (first_forbidding s.hist.set staged.member.task)
+          (sym (ap (λ (b : Bool). cond b (option_and_then (held_by_other s c) (needed_block s c)) (option_map answer.Dormant (first_forbidding s.hist.set staged.member.task))) waiting.started) ∙ refused);
+    }
+
+pub may_start : (s : Scene) (d : Server) (c : ℕ) → MayWork s d c → under_way d.commands.items c ≡ None → MayStart s d c
+may_start s d c may none = by_accepted s d c (accepted_of d.commands.items c) refl (may.fits.staged c) none may.free
+
+-- the set with one started
+pub find-started_own : (c : ℕ) (set : List Member) (m : Member) → member_of set c ≡ Some m → member_of (with_started set c) c ≡ Some (record m { started = true })
+find-started_own c [] m is = absurd (cc)
+find-started_own c (x ∷ xs) m is = by (find-started_own c xs m) (eqb x.task.c c) refl is
+  where
+    by : (member_of xs c ≡ Some m → member_of (with_started xs c) c ≡ Some (record m { started = true })) → (b : Bool) → eqb x.task.c c ≡ b
+        → cond b (Some x) (member_of xs c) ≡ Some m
+        → cond (eqb (cond b (record x { started = true }) x).task.c c) (Some (cond b (record x { started = true }) x)) (member_of (with_started xs c) c) ≡ Some (record m { started = true })
+    by rest true e some =
+        let one : x ≡ m = cc in
+        ap (λ (t : Bool). cond t (Some (record x { started = true })) (member_of (with_started xs c) c)) e ∙ ap (λ (y : Member). Some (record y { started = true })) one
+    by rest false e some = ap (λ (t : Bool). cond t (Some x) (member_of (with_started xs c) c)) e ∙ rest some
+
+pub find-started_other : (c q : ℕ) (set : List Member) → q ≢ c → member_of (with_started set c) q ≡ member_of set q
+find-started_other c q [] other = refl
+find-started_other c q (x ∷ xs) other = by (find-started_other c q xs other) (eqb x.task.c c) refl
+  where
+    by : member_of (with_started xs c) q ≡ member_of xs q → (b : Bool) → eqb x.task.c c ≡ b
+        → cond (eqb (cond b (record x { started = true }) x).task.c q) (Some (cond b (record x { started = true }) x)) (member_of (with_started xs c) q)
+        ≡ cond (eqb x.task.c q) (Some x) (member_of xs q)
+    by rest true e =
+        let apart : eqb x.task.c q ≡ false = ne_eqb x.task.c q (λ same. other (sym same ∙ eqb-true x.task.c c e)) in
+        ap (λ (t : Bool). cond t (Some (record x { started = true })) (member_of (with_started xs c) q)) apart
+        ∙ (rest ∙ sym (ap (λ (t : Bool). cond t (Some x) (member_of xs q)) apart))
+    by rest false e = ap (λ (o : Option Member). cond (eqb x.task.c q) (Some x) o) rest
+
+-- a start keeps the numbers
+started-number : (c : ℕ) (m : Member) (n : ℕ) → m.task.c ≤ n → (started_at c m).task.c ≤ n
+started-number c m n below = by (eqb m.task.c c)
+  where
+    by : (b : Bool) → (cond b (record m { started = true }) m).task.c ≤ n
+    by true = below
+    by false = below
+
+pub All-started : (c n : ℕ) (set : List Member) → All (λ m. m.task.c ≤ n) set → All (λ m. m.task.c ≤ n) (with_started set c)
+All-started c n set all = All-map (λ (m : Member). m.task.c ≤ n) (started_at c) set (All-weaker (λ (m : Member). m.task.c ≤ n) (λ (m : Member). (started_at c m).task.c ≤ n) (λ m below. started-number c m n below) set all)
+
+-- the history after the start
+abbrev pub started_state : Scene → ℕ → State
+started_state s c = entry_after (capacity s) (Work c) (begun s.hist (Work c)) (Started c)
+
+-- what the command begins with
+abbrev pub plan_of_start : Scene → ℕ → Plan
+plan_of_start s c = first_plan (capacity s) s.hist (initiator_of s.hist c) (s.hist.duties c)
+
+pub start-duty : (s : Scene) (c : ℕ) → ((started_state s c).duties c).owes ≡ Some (plan_of_start s c)
+start-duty s c =
+    ap (λ (x : Duty). x.owes) (put_at-own c _ (begun s.hist (Work c)).duties)
+    ∙ ap (λ (x : Duty). Some (first_plan (capacity s) (begun s.hist (Work c)) (initiator_of s.hist c) x)) (begun-duty s.hist c)
+
+pub start-asks : (s : Scene) (c : ℕ) → ((started_state s c).duties c).asks ≡ (s.hist.duties c).asks
+start-asks s c = ap (λ (x : Duty). x.asks) (put_at-own c _ (begun s.hist (Work c)).duties) ∙ ap (λ (x : Duty). x.asks) (begun-duty s.hist c)
+
+pub start-owes : (s : Scene) (c : ℕ) (m : Member) → member_of s.hist.set c ≡ Some m → owed_by (started_state s c) c ≡ Some (plan_of_start s c)
+start-owes s c m is_in =
+    ap (λ (o : Option Member). option_and_then (λ (x : Member). ((started_state s c).duties c).owes) o) (find-started_own c s.hist.set m is_in) ∙ start-duty s c
+
+-- what a start leaves as it was
+pub record IsStartOf (s : Scene) (d e : Server) (c : ℕ) : Type 0 where
+  pub fits : Fits s d
+  pub may : MayStart s d c
+  pub store : e.store ≡ d.store
+  pub arrived : e.arrived ≡ d.arrived
+  pub known : e.known ≡ d.known
+
+start_lawful : (s : Scene) (d : Server) (c : ℕ) → MayStart s d c → entry_lawful (capacity s) (Work c) (begun s.hist (Work c)) (Started c) ≡ true
+start_lawful s d c may =
+    and_both (eqb c c) _ (eq-eqb c c refl)
+    (ap (λ (o : Option Member). option_map_or (λ (m : Member). not m.started && is_none (first_forbidding s.hist.set m.task)) o false) may.is_in
+    ∙ and_both (not may.m.started) (is_none (first_forbidding s.hist.set may.m.task)) (ap not may.waiting.started) (ap is_none may.free))
+
+-- a read at its first block
+pub first_read : (v : View) (r : reading.Reading) (settings : Settings) → r.at < r.end → v.window ≡ [] → v.settings ≡ settings → v.holds_dirty ≡ false
+    → IsTrying v r (progress.begun settings.retry)
+first_read v r settings left window same clean = record {
+  left = left;
+  next = ap is_some (plain_stage settings.retry 0 (omega arith));
+  retry = sym (ap (λ (x : Settings). x.retry) same);
+  failed = λ k x below here. absurd (omega arith);
+  unfound = ap last_found window;
+  fresh = ap (λ (xs : List Op). eqb (length xs) 0) window;
+  clean = clean;
+}
+
+module _ (s : Scene) (d e : Server) (c : ℕ) (is : IsStartOf s d e c) where
+  still_stands : IsStood s.map (s.ops ++ []) s.hist.blocks
+  still_stands = subst (λ (ops : List Op). IsStood s.map ops s.hist.blocks) (sym (append-nil s.ops)) is.fits.stands
+
+  store_present : IsPresentMap e.store.map e.store.platter.ops
+  store_present =
+      subst (λ (y : Contained). IsPresentMap y.map y.platter.ops) (sym is.store)
+      (subst (λ (n : DefectMap). IsPresentMap n d.store.platter.ops) (sym is.fits.store.map)
+      (subst (λ (ops : List Op). IsPresentMap s.map ops) (sym is.fits.store.ops) is.fits.store.present))
+
+  added : e.store.platter.ops ≡ d.store.platter.ops ++ []
+  added = ap (λ (y : Contained). y.platter.ops) is.store ∙ sym (append-nil d.store.platter.ops)
+
+  has : (t : Scene) → t.map ≡ s.map → t.ops ≡ s.ops ++ [] → HasOps t e.store
+  has t map_is ops_is = has_ops s t d.store e.store [] is.fits.store map_is ops_is (ap (λ (y : Contained). y.map) is.store) added
+      (ap (λ (y : Contained). y.platter.armed) is.store) (ap is_off (append-nil s.ops)) (λ p. ap (is_faulty p) (append-nil s.ops)) store_present
+
+  cached : (t : Scene) (more : List Entry) → t.map ≡ s.map → t.ops ≡ s.ops ++ [] → t.since ≡ s.since ++ [] → t.entries ≡ s.entries ++ more
+      → t.hist.dirty ≡ s.hist.dirty → t.hist.blocks ≡ s.hist.blocks → IsCached t e.store.cache
+  cached t more map_is ops_is since_is entries_is order blocks_are =
+      subst (λ (y : Contained). IsCached t y.cache) (sym is.store)
+      (cached_got s t d.store.cache (quiet_got s t more map_is ops_is since_is entries_is order blocks_are) is.fits.cached)
+
+  knows : (t : Scene) → t.map ≡ s.map → t.hist.settings ≡ s.hist.settings → t.hist.waiting ≡ waiting_at_start s.hist.waiting (initiator_of s.hist c) ((begun s.hist (Work c)).duties c)
+      → t.hist.corrupt ≡ s.hist.corrupt → t.hist.scan ≡ s.hist.scan → KnowsHistory t e.known
+  knows t map_is settings waiting corrupt scan =
+      let served : is_served ((begun s.hist (Work c)).duties c).asks ≡ true = ap (λ (x : Duty). is_served x.asks) (begun-duty s.hist c) ∙ is.may.waiting.served in
+      subst (λ (k : Known). KnowsHistory t k) (sym is.known)
+      (known-quiet s t d.known map_is settings (waiting ∙ none_taken s.hist.waiting (initiator_of s.hist c) ((begun s.hist (Work c)).duties c) is.fits.known.unwarned served) corrupt scan is.fits.known)
+
+  -- it ends at once
+  pub starts_and_ends : (reply : Reply) (entries : List Entry) (told : Option told_end.Ended) → plan_of_start s c ≡ Ending reply
+      → e.set ≡ without (with_started d.set c) c → Drops d.commands.items e.commands.items c → entries ≡ Started c ∷ Ended c reply ∷ []
+      → told ≡ ended_of_member (member_of (with_started d.set c) c) reply → Moves (Work c) s d e entries told
+  starts_and_ends reply entries told plan_is set_is drops entries_are told_is =
+      let h : State = started_state s c in
+      let t : Scene = scene_after s (beat (Work c) (Started c ∷ Ended c reply ∷ []) []) in
+      let owes : owed_by h c ≡ Some (Ending reply) = start-owes s c is.may.m is.may.is_in ∙ ap Some plan_is in
+      let may_end : next (Ending reply) (deed.Ended reply (names_dirty h reply)) ≡ Some Over = ap (λ (b : Bool). cond b (Some Over) None) (same_reply-own reply) in
+      let last : entry_lawful (capacity s) (Work c) h (Ended c reply) ≡ true = end_lawful (capacity s) h c (Ending reply) Over reply owes may_end refl in
+      let gone : member_of t.hist.set c ≡ None = find-dropped_own (λ (m : Member). m.task.c) c (with_started s.hist.set c) in
+      let told_so : told ≡ ended_of_member (member_of s.hist.set c) reply =
+      told_is ∙ (ap (λ (ms : List Member). ended_of_member (member_of (with_started ms c) c) reply) is.fits.tasks.set
+      ∙ (ap (λ (o : Option Member). ended_of_member o reply) (find-started_own c s.hist.set is.may.m is.may.is_in)
+      ∙ sym (ap (λ (o : Option Member). ended_of_member o reply) is.may.is_in))) in
+      let M : List Entry → Option told_end.Ended → Type 0 = λ es o. Moves (Work c) s d e es o in
+      let moves : M (Started c ∷ Ended c reply ∷ []) (ended_of_member (member_of s.hist.set c) reply) = record {
+        ops = [];
+        added = added;
+        good = record {
+          tasks = and_both _ _ (and_both true _ refl (and_both _ _ (start_lawful s d c is.may) (and_both _ true last refl)))
+              (ap owes_nothing_now (over_owes (capacity s) h c reply));
+          blocks = λ none. refl;
+          shown = (tt, (subst (λ (o : Option Plan). IsEndShown s (beat (Work c) (Started c ∷ Ended c reply ∷ []) []) c o reply) (sym owes) tt, tt));
+          step = (refl, refl);
+          one_block = (lba 0, refl);
+          held = λ q below about. absurd (cc);
+          stands = still_stands;
+        };
+        fits = record {
+          store = has t refl refl;
+          cached = cached t (Started c ∷ Ended c reply ∷ []) refl refl refl refl refl refl;
+          known = knows t refl refl refl refl refl;
+          tasks = record {
+            set = set_is ∙ ap (λ (ms : List Member). without (with_started ms c) c) is.fits.tasks.set;
+            arrived = is.arrived ∙ is.fits.tasks.arrived;
+            came = All-filter _ (λ (m : Member). m.task.c ≤ s.hist.arrived) (with_started s.hist.set c) (All-started c s.hist.arrived s.hist.set is.fits.tasks.came);
+          };
+          staged = all_staged t e.commands.items c
+              (subst (λ (o : Option Accepted). IsStaged (view t c) o) (sym drops.own) gone)
+              (λ q other. staged-alike s t q (accepted_of d.commands.items q) (accepted_of e.commands.items q)
+              (record {
+                map = refl;
+                member = find-dropped_other (λ (m : Member). m.task.c) c q (with_started s.hist.set c) other ∙ find-started_other c q s.hist.set other;
+                duty = put_at-other c q _ h.duties other ∙ (put_at-other c q _ (begun s.hist (Work c)).duties other ∙ put_at-other c q _ s.hist.duties other);
+                window = put_at-other c q _ s.windows other;
+                settings = put_at-other c q s.hist.settings s.settings other;
+                recovered = refl;
+                dirty = λ n holds. refl;
+              })
+              (drops.others q other) (is.fits.staged q));
+          stands = still_stands;
+        };
+        counted = omega (arith, is.arrived);
+        ended = refl;
+      } in
+      subst (λ (o : Option told_end.Ended). M entries o) (sym told_so)
+      (subst (λ (es : List Entry). M es (ended_of_member (member_of s.hist.set c) reply)) (sym entries_are) moves)
+
+  -- it begins to work on blocks
+  pub starts_working : (w : Course) (entries : List Entry) (told : Option told_end.Ended) (gives : Bool) (plan : Plan) → plan_of_start s c ≡ plan
+      → owes_nothing_now (Some plan) ≡ true
+      → ((v : View) → v.window ≡ [] → v.settings ≡ s.hist.settings → v.holds_dirty ≡ false → IsAtBlock v plan (Trying (progress.begun s.hist.settings.retry)))
+      → held_by_plan [] plan ≡ None → end_of plan ≤ capacity s → IsOwnRange (s.hist.duties c).asks plan → is_served_plan plan ≡ true
+      → w ≡ record { settings = s.hist.settings; gives = gives; plan = plan; step = Trying (progress.begun s.hist.settings.retry); recovered = None }
+      → e.set ≡ with_started d.set c → Replaces d.commands.items e.commands.items c (record is.may.a { sent = Nothing; work = Some w })
+      → entries ≡ Started c ∷ [] → told ≡ None → Moves (Work c) s d e entries told
+  starts_working w entries told gives plan plan_is settled at_block unheld range own_range served w_is set_is replaces entries_are told_is =
+      let h : State = started_state s c in
+      let t : Scene = scene_after s (beat (Work c) (Started c ∷ []) []) in
+      let owes : owed_by h c ≡ Some plan = start-owes s c is.may.m is.may.is_in ∙ ap Some plan_is in
+      let settings : t.settings c ≡ s.hist.settings = put_at-own c s.hist.settings s.settings in
+      let window : t.windows c ≡ [] = put_at-own c (window_after c (s.windows c) (beat (Work c) (Started c ∷ []) [])) s.windows
+      ∙ ap (λ (b : Bool). cond (b || false) [] (s.windows c ++ [])) (eq-eqb c c refl) in
+      let held : held_block t c ≡ None = (λ i. option_and_then (held_by_plan (window i)) (owes i)) ∙ unheld in
+      let working : IsWorking (view t c) (record is.may.m { started = true })
+      (record { settings = s.hist.settings; gives = gives; plan = plan; step = Trying (progress.begun s.hist.settings.retry); recovered = None }) = record {
+        started = refl;
+        owes = start-duty s c ∙ ap Some plan_is;
+        settings = settings;
+        recovered = is.may.waiting.recovered;
+        at_block = at_block (view t c) window settings (ap (λ (o : Option ℕ). option_map_or (λ b. is_dirty (t.hist.blocks b)) o false) held);
+        range = range;
+        own_recovery = tt;
+        own_range = subst (λ (x : Result Request Sense). IsOwnRange x plan) (sym (start-asks s c)) own_range;
+        served = served;
+      } in
+      let own : IsCommand (view t c) (record is.may.a { sent = Nothing; work = Some w }) = record {
+        member = record is.may.m { started = true };
+        is_in = find-started_own c s.hist.set is.may.m is.may.is_in;
+        under_way = subst (λ (x : Course). IsWorking (view t c) (record is.may.m { started = true }) x) (sym w_is) working;
+      } in
+      let M : List Entry → Option told_end.Ended → Type 0 = λ es o. Moves (Work c) s d e es o in
+      let moves : M (Started c ∷ []) None = record {
+        ops = [];
+        added = added;
+        good = record {
+          tasks = and_both _ _ (and_both true _ refl (and_both _ true (start_lawful s d c is.may) refl)) (ap owes_nothing_now owes ∙ settled);
+          blocks = λ none. refl;
+          shown = (tt, tt);
+          step = (refl, refl);
+          one_block = (lba 0, refl);
+          held = λ q below about. absurd (cc);
+          stands = still_stands;
+        };
+        fits = record {
+          store = has t refl refl;
+          cached = cached t (Started c ∷ []) refl refl refl refl refl refl;
+          known = knows t refl refl refl refl refl;
+          tasks = record {
+            set = set_is ∙ ap (λ (ms : List Member). with_started ms c) is.fits.tasks.set;
+            arrived = is.arrived ∙ is.fits.tasks.arrived;
+            came = All-started c s.hist.arrived s.hist.set is.fits.tasks.came;
+          };
+          staged = all_staged t e.commands.items c
+              (subst (λ (o : Option Accepted). IsStaged (view t c) o) (sym replaces.own) own)
+              (λ q other. staged-alike s t q (accepted_of d.commands.items q) (accepted_of e.commands.items q)
+              (record {
+                map = refl;
+                member = find-started_other c q s.hist.set other;
+                duty = put_at-other c q _ (begun s.hist (Work c)).duties other ∙ put_at-other c q _ s.hist.duties other;
+                window = put_at-other c q _ s.windows other;
+                settings = put_at-other c q s.hist.settings s.settings other;
+                recovered = refl;
+                dirty = λ n holds. refl;
+              })
+              (replaces.others q other) (is.fits.staged q));
+          stands = still_stands;
+        };
+        counted = omega (arith, is.arrived);
+        ended = refl;
+      } in
+      subst (λ (o : Option told_end.Ended). M entries o) (sym told_is) (subst (λ (es : List Entry). M es None) (sym entries_are) moves)
+
+-- a plan that begins with a reply, and one that begins with work
+pub begins_with_reply : (blocks : ℕ) (plan : Plan) (asks : Result Request Sense) (sent : DataOut) (given : Reply) → BeginsBy blocks plan asks sent (first_variant.Reply given) → plan ≡ Ending given
+begins_with_reply blocks (Ending reply) asks sent given is = ap Ending (sym is)
+begins_with_reply blocks (Unread b) asks sent given is = absurd is
+begins_with_reply blocks (Answering bytes reply) asks sent given is = absurd is
+begins_with_reply blocks Changing asks sent given is = absurd is
+begins_with_reply blocks (Reading r) asks sent given is = absurd is
+begins_with_reply blocks (Writing w) asks sent given is = absurd is
+begins_with_reply blocks (Syncing y) asks sent given is = absurd is
+begins_with_reply blocks (Moving x) asks sent given is = absurd is
+begins_with_reply blocks Over asks sent given is = absurd is
+
+abbrev IsWork : Plan → Type 0
+IsWork (Ending reply) = ⊥
+IsWork other = Unit {0}
+
+pub record BeginsWork (blocks : ℕ) (plan : Plan) (asks : Result Request Sense) (sent : DataOut) (request : Request) : Type 0 where
+  pub work : IsWork plan
+  pub is_for : IsWorkFor blocks asks sent request
+
+pub begins_with_work : (blocks : ℕ) (plan : Plan) (asks : Result Request Sense) (sent : DataOut) (command : Command) → BeginsBy blocks plan asks sent (first_variant.Work command)
+    → BeginsWork blocks plan asks sent (request_of command)
+begins_with_work blocks (Ending reply) asks sent command is = absurd is
+begins_with_work blocks (Unread b) asks sent command is = record { work = tt; is_for = is }
+begins_with_work blocks (Answering bytes reply) asks sent command is = record { work = tt; is_for = is }
+begins_with_work blocks Changing asks sent command is = record { work = tt; is_for = is }
+begins_with_work blocks (Reading r) asks sent command is = record { work = tt; is_for = is }
+begins_with_work blocks (Writing w) asks sent command is = record { work = tt; is_for = is }
+begins_with_work blocks (Syncing y) asks sent command is = record { work = tt; is_for = is }
+begins_with_work blocks (Moving x) asks sent command is = record { work = tt; is_for = is }
+begins_with_work blocks Over asks sent command is = record { work = tt; is_for = is }
+
+-- a plan depends on these parts of a state and of a command alone
+first-same : (blocks i : ℕ) (h k : State) (x y : Duty) → h.settings ≡ k.settings → h.waiting ≡ k.waiting → h.corrupt ≡ k.corrupt → h.scan ≡ k.scan
+    → x.code ≡ y.code → x.asks ≡ y.asks → x.sent ≡ y.sent → first_plan blocks h i x ≡ first_plan blocks k i y
+first-same blocks i h k x y settings waiting corrupt scan code asks sent =
+    λ j. first_plan blocks (record h { settings = settings j; waiting = waiting j; corrupt = corrupt j; scan = scan j }) i (record x { code = code j; asks = asks j; sent = sent j })
+
+-- what is first by what the drive knows is first by the history
+pub first-known : (s : Scene) (d : Server) (c : ℕ) (first : First) (m : Member) (a : Accepted) → Fits s d → MayStart s d c → member_of d.set c ≡ Some m → accepted_of d.commands.items c ≡ Some a
+    → IsFirstBy d.known m a first → IsFirst s c first
+first-known s d c first m a fits may in_set in_list is =
+    let m_is : m ≡ may.m = (let here : member_of s.hist.set c ≡ Some m = sym (ap (λ (ms : List Member). member_of ms c) fits.tasks.set) ∙ in_set in
+    let there : member_of s.hist.set c ≡ Some may.m = may.is_in in cc) in
+    let a_is : a ≡ may.a = (let there : accepted_of d.commands.items c ≡ Some may.a = may.a_is in cc) in
+    let size : d.known.capacity ≡ capacity s = fits.known.capacity in
+    let i_is : m.task.initiator ≡ initiator_of s.hist c =
+    ap (λ (x : Member). x.task.initiator) m_is ∙ sym (ap (λ (o : Option Member). option_map_or (λ (x : Member). x.task.initiator) o 0) may.is_in) in
+    let asks : read_of a.cdb a.sent d.known.capacity ≡ (s.hist.duties c).asks =
+    (λ j. read_of (a_is j).cdb (a_is j).sent (size j)) ∙ sym may.waiting.asks in
+    let sent : a.sent ≡ (s.hist.duties c).sent = ap (λ (x : Accepted). x.sent) a_is ∙ sym may.waiting.sent in
+    let code : slice_index a.cdb 0 ≡ (s.hist.duties c).code = ap (λ (x : Accepted). slice_index x.cdb 0) a_is ∙ sym may.waiting.code in
+    let plan : first_plan d.known.capacity (state_of d.known) m.task.initiator (duty_of (slice_index a.cdb 0) (read_of a.cdb a.sent d.known.capacity) a.sent)
+    ≡ first_plan (capacity s) s.hist (initiator_of s.hist c) (s.hist.duties c) =
+    (λ j. first_plan (size j) (state_of d.known) (i_is j) (duty_of (slice_index a.cdb 0) (read_of a.cdb a.sent d.known.capacity) a.sent))
+    ∙ first-same (capacity s) (initiator_of s.hist c) (state_of d.known) s.hist (duty_of (slice_index a.cdb 0) (read_of a.cdb a.sent d.known.capacity) a.sent) (s.hist.duties c)
+    fits.known.settings fits.known.waiting fits.known.corrupt fits.known.scan code asks sent in
+    let P : ℕ → Plan → Type 0 = λ n p. BeginsBy n p (s.hist.duties c).asks (s.hist.duties c).sent first in
+    let Q : Result Request Sense → DataOut → Type 0 = λ x y. BeginsBy d.known.capacity
+    (first_plan d.known.capacity (state_of d.known) m.task.initiator (duty_of (slice_index a.cdb 0) (read_of a.cdb a.sent d.known.capacity) a.sent)) x y first in
+    let moved : Q (s.hist.duties c).asks (s.hist.duties c).sent =
+    subst (λ (y : DataOut). Q (s.hist.duties c).asks y) sent (subst (λ (x : Result Request Sense). Q x a.sent) asks is) in
+    subst (λ (n : ℕ). P n (first_plan (capacity s) s.hist (initiator_of s.hist c) (s.hist.duties c))) size
+    (subst (λ (p : Plan). P d.known.capacity p) plan moved)
+
+-- what an answer says of what is in it
+pub IfOk-map : {T E : Type 0} (P Q : T → Type 0) (r : Result T E) → ((x : T) → P x → Q x) → IfOk r P → IfOk r Q
+IfOk-map P Q (Ok x) f h = f x h
+IfOk-map P Q (Err e) f h = h
+
+pub served_first : (s : Scene) (d : Server) (c : ℕ) (a : Accepted) → Fits s d → MayStart s d c → accepted_of d.commands.items c ≡ Some a
+    → is_served (read_of a.cdb a.sent d.known.capacity) ≡ true
+served_first s d c a fits may in_list =
+    let a_is : a ≡ may.a = (let there : accepted_of d.commands.items c ≡ Some may.a = may.a_is in cc) in
+    (λ j. is_served (read_of (a_is j).cdb (a_is j).sent (fits.known.capacity j))) ∙ (ap is_served (sym may.waiting.asks) ∙ may.waiting.served)
+
+pub in_set : (s : Scene) (d : Server) (c : ℕ) → Fits s d → (may : MayStart s d c) → member_of d.set c ≡ Some may.m
+in_set s d c fits may = ap (λ (ms : List Member). member_of ms c) fits.tasks.set ∙ may.is_in
+
+-- a command that begins with work names a block
+pub not_empty : (count : ℕ) (plan : Plan) (rest : Plan) → plan ≡ unwrap_or (unless_empty count rest) Over → IsWork plan → eqb count 0 ≡ false
+not_empty count plan rest is work = by (eqb count 0) refl is
+  where
+    by : (b : Bool) → eqb count 0 ≡ b → plan ≡ unwrap_or (cond b (Some (Ending good)) (Some rest)) Over → eqb count 0 ≡ false
+    by true e same = absurd (subst IsWork same work)
+    by false e same = e
+
+pub few_blocks : (s : Scene) → capacity s ≤ 4096
+few_blocks s = let most = s.map.size.within_limits.greatest in omega (arith, most)
+
+-- data out, and work begun
+pub both_replaced : (xs ys zs : List Accepted) (c : ℕ) (a : Accepted) (w : Course) → Replaces xs ys c (record a { sent = Nothing })
+    → Replaces ys zs c (record a { sent = Nothing; work = Some w }) → Replaces xs zs c (record a { sent = Nothing; work = Some w })
+both_replaced xs ys zs c a w first second = record { own = second.own; others = λ q other. second.others q other ∙ first.others q other }
+
+pub is_in-started : (s : Scene) (d : Server) (c : ℕ) (set : List Member) → Fits s d → MayStart s d c → set ≡ with_started d.set c → IsIn set c
+is_in-started s d c set fits may set_is =
+    let here : member_of set c ≡ Some (record may.m { started = true }) =
+    ap (λ (ms : List Member). member_of ms c) (set_is ∙ ap (λ (ms : List Member). with_started ms c) fits.tasks.set) ∙ find-started_own c s.hist.set may.m may.is_in in
+    subst IsSome (sym here) refl

@@ -1,0 +1,128 @@
+-- A turn in which damage comes.
+use Rattle.std.proofs.Common.{◌≡◌, ℕ, ◌+◌, ◌≤◌, ◌<◌, Bool, true, false, List, [], ◌∷◌, ◌++◌, Option, Some, None, refl, sym, ap, ◌∙◌, subst, arith, append-nil}
+use Rattle.std.specs.Prelude.{◌^◌}
+use Rattle.std.proofs.lemmas.List.Sums.{fold-append}
+use Rattle.disk_base.specs.declared.address.Lba.{Lba}
+use Rattle.platter_model.specs.declared.damage.Damage.{Damage}
+use Rattle.platter_model.specs.declared.op.Op.{Op}
+use Rattle.platter_model.specs.declared.op.Op.TheVariants.{Damaged}
+use Rattle.platter_model.specs.declared.world.World.{World}
+use Rattle.platter_model.specs.declared.world.World.TheVariants as world
+use Rattle.platter_model.specs.State.{State as Platter, with_op}
+use Rattle.platter_model.specs.Sector.{is_faulty, faulty_after}
+use Rattle.platter_model.specs.TrueLog.{supply_after, powered, is_unpowered, is_off, strays}
+use Rattle.geometry_map.specs.Size.{total_of}
+use Rattle.geometry_map.specs.DefectMap.{DefectMap}
+use Rattle.sector_store.specs.Stored.{stored, KeepsBlocks}
+use Rattle.sector_store.specs.Maps.{MayBeRecovered}
+use Rattle.sector_store.specs.State.{Contained, IsStore}
+use Rattle.sector_store.specs.Happening.{after_world, MayHappen}
+use Rattle.block_machine.specs.declared.entry.Entry.{Entry}
+use Rattle.block_machine.specs.declared.turn.Label.TheVariants as label
+use Rattle.drive_core.specs.declared.event.Event.TheVariants as event
+use Rattle.drive_core.specs.declared.accepted.Accepted.{Accepted}
+use Rattle.drive_core.specs.declared.server.Server.{Server}
+use Rattle.drive_core.specs.Scene.{Scene, capacity, scene_after}
+use Rattle.drive_core.specs.Accepting.{accepted_of}
+use Rattle.drive_core.specs.Evidence.{lba}
+use Rattle.drive_core.specs.GoodTurn.{GoodTurn, IsStood, IsAllowed}
+use Rattle.drive_core.specs.Fits.{Fits, IsPresentMap, IsCached, KnowsHistory}
+use Rattle.drive_core.specs.Moves.{Moves, beat}
+use Rattle.drive_core.specs.Served.{IsServedWorld}
+use Rattle.drive_core.specs.Serving.{MayServe}
+use Rattle.drive_core.proofs.Tries.{no_strays-before}
+use Rattle.drive_core.proofs.Elsewhere.{IsAlike, staged-alike}
+use Rattle.drive_core.proofs.Parts.{IsGotOnly, cached_got}
+use Rattle.drive_core.proofs.Closing.{has_ops, present_after}
+
+-- what may happen to a store, of what is served
+pub may_happen : (s : Scene) (d : Server) (w : World) → Fits s d → d.store.platter.sectors ≡ total_of d.store.map.size → IsServedWorld s.map.size w → MayHappen d.store.platter w
+may_happen s d (world.Damage x) fits sectors served =
+    let size : d.store.platter.sectors ≡ total_of s.map.size = sectors ∙ ap (λ (n : DefectMap). total_of n.size) fits.store.map in
+    (omega (arith, served.0), served.1)
+may_happen s d (world.Fault p) fits sectors served = absurd served
+may_happen s d world.Cut fits sectors served = absurd served
+may_happen s d (world.Arm k tear) fits sectors served = absurd served
+may_happen s d world.Power fits sectors served = absurd served
+may_happen s d (world.Minutes count) fits sectors served = absurd served
+
+damages : (s : Scene) (d e : Server) (x : Damage) → Fits s d → e.store ≡ record d.store { platter = with_op d.store.platter (Damaged x) }
+    → e.set ≡ d.set → e.commands.items ≡ d.commands.items → e.arrived ≡ d.arrived → e.known ≡ d.known
+    → KeepsBlocks d.store.map d.store.platter.ops e.store.platter.ops → IsPresentMap e.store.map e.store.platter.ops
+    → Moves (label.World (world.Damage x)) s d e [] None
+damages s d e x fits store_is set_is commands_is arrived_is known_is keeps present =
+    let ops : List Op = Damaged x ∷ [] in
+    let t : Scene = scene_after s (beat (label.World (world.Damage x)) [] (Damaged x ∷ [])) in
+    let added : e.store.platter.ops ≡ d.store.platter.ops ++ Damaged x ∷ [] = ap (λ (y : Contained). y.platter.ops) store_is in
+    let all : e.store.platter.ops ≡ s.ops ++ Damaged x ∷ [] = added ∙ ap (λ (xs : List Op). xs ++ Damaged x ∷ []) fits.store.ops in
+    let map_is : e.store.map ≡ d.store.map = ap (λ (y : Contained). y.map) store_is in
+    let here : IsPresentMap s.map (s.ops ++ Damaged x ∷ []) =
+    subst (λ (xs : List Op). IsPresentMap s.map xs) all (subst (λ (n : DefectMap). IsPresentMap n e.store.platter.ops) (map_is ∙ fits.store.map) present) in
+    let kept : KeepsBlocks s.map s.ops (s.ops ++ Damaged x ∷ []) =
+    subst (λ (xs : List Op). KeepsBlocks s.map s.ops xs) all
+    (subst (λ (n : DefectMap). KeepsBlocks n s.ops e.store.platter.ops) fits.store.map
+    (subst (λ (xs : List Op). KeepsBlocks d.store.map xs e.store.platter.ops) fits.store.ops keeps)) in
+    let stands : IsStood s.map (s.ops ++ Damaged x ∷ []) s.hist.blocks = λ none taken may q below.
+    subst (λ v. IsAllowed s.hist.blocks q v) (sym (kept taken may q)) (fits.stands (no_strays-before s.ops (Damaged x ∷ []) none) s.map fits.store.present.may_be q below) in
+    let got : IsGotOnly s t = record {
+      map = refl;
+      newest = λ n. refl;
+      dirty = λ n. refl;
+      order = refl;
+      more_entries = [];
+      entries = refl;
+      more_ops = Damaged x ∷ [];
+      since = refl;
+      unstrayed = λ none. no_strays-before s.ops (Damaged x ∷ []) none;
+      kept = λ q. kept s.map here.may_be q;
+    } in
+    let off : is_off (s.ops ++ Damaged x ∷ []) ≡ is_off s.ops = ap is_unpowered (fold-append supply_after powered s.ops (Damaged x ∷ [])) in
+    record {
+      ops = Damaged x ∷ [];
+      added = added;
+      good = record {
+        tasks = refl;
+        blocks = λ none. refl;
+        shown = tt;
+        step = refl;
+        one_block = (lba 0, refl);
+        held = λ q below about. tt;
+        stands = stands;
+      };
+      fits = record {
+        store = has_ops s t d.store e.store (Damaged x ∷ []) fits.store refl refl map_is added (ap (λ (y : Contained). y.platter.armed) store_is) off
+            (λ q. fold-append (faulty_after q) false s.ops (Damaged x ∷ [])) present;
+        cached = subst (λ (y : Contained). IsCached t y.cache) (sym store_is) (cached_got s t d.store.cache got fits.cached);
+        known = subst (λ k. KnowsHistory t k) (sym known_is) (record {
+          capacity = fits.known.capacity;
+          settings = fits.known.settings;
+          retry = fits.known.retry;
+          waiting = fits.known.waiting;
+          unwarned = fits.known.unwarned;
+          corrupt = fits.known.corrupt;
+          readable = fits.known.readable;
+          scan = fits.known.scan;
+        });
+        tasks = record { set = set_is ∙ fits.tasks.set; arrived = arrived_is ∙ fits.tasks.arrived; came = fits.tasks.came };
+        staged = λ q. staged-alike s t q (accepted_of d.commands.items q) (accepted_of e.commands.items q)
+            (record { map = refl; member = refl; duty = refl; window = refl; settings = refl; recovered = refl; dirty = λ n holds. refl })
+            (ap (λ (xs : List Accepted). accepted_of xs q) commands_is) (fits.staged q);
+        stands = stands;
+      };
+      counted = omega (arith, arrived_is);
+      ended = refl;
+    }
+
+pub happens : (s : Scene) (d e : Server) (w : World) → Fits s d → IsServedWorld s.map.size w → e.store ≡ record d.store { platter = after_world d.store.platter w }
+    → e.set ≡ d.set → e.commands.items ≡ d.commands.items → e.arrived ≡ d.arrived → e.known ≡ d.known
+    → KeepsBlocks d.store.map d.store.platter.ops e.store.platter.ops → IsStore e.store → KeepsBlocks e.store.map e.store.platter.ops e.store.platter.ops
+    → (e.store.map.number < 2 ^ 63 → MayBeRecovered e.store.map.size e.store.platter.ops e.store.map)
+    → Moves (label.World w) s d e [] None
+happens s d e (world.Damage x) fits served store_is set_is commands_is arrived_is known_is keeps store finds may =
+    damages s d e x fits store_is set_is commands_is arrived_is known_is keeps
+    (present_after s d.store e.store fits.store (ap (λ (y : Contained). y.map) store_is) store finds may)
+happens s d e (world.Fault p) fits served store_is set_is commands_is arrived_is known_is keeps store finds may = absurd served
+happens s d e world.Cut fits served store_is set_is commands_is arrived_is known_is keeps store finds may = absurd served
+happens s d e (world.Arm k tear) fits served store_is set_is commands_is arrived_is known_is keeps store finds may = absurd served
+happens s d e world.Power fits served store_is set_is commands_is arrived_is known_is keeps store finds may = absurd served
+happens s d e (world.Minutes count) fits served store_is set_is commands_is arrived_is known_is keeps store finds may = absurd served

@@ -1,0 +1,69 @@
+use Rattle.std.proofs.Common.{◌≡◌, ◌∙◌, ◌++◌, ◌∷◌, [], List, false, true, refl, sym, ap, subst}
+use Rattle.task_set.specs.declared.member.Member.{Member}
+use Rattle.task_set.specs.Members.{member_of, without}
+use Rattle.cdb_reader.specs.Read.{has_data}
+use Rattle.cdb_reader.specs.Request.{Request, request_of}
+use Rattle.block_machine.specs.declared.entry.Entry.{Entry}
+use Rattle.block_machine.specs.declared.entry.Entry.TheVariants.{Started, Ended}
+use Rattle.drive_core.specs.Ending.{ended_of_member}
+use Rattle.drive_core.specs.Scene.{capacity}
+use Rattle.drive_core.specs.Starting.{IsFirst}
+use Rattle.drive_core.proofs.StartTurns.{MayStart, may_start, begins_with_reply, plan_of_start, both_replaced, is_in-started, starts_and_ends}
+use Rattle.drive_core.proofs.StartKinds.{BeginsOn, begins_on, range_on, unmoved_on, sent_on, starts_on}
+use Rattle.disk_base.specs.declared.command.DataOut.{DataOut}
+use Rattle.drive_core.proofs.starting.start.Goals as goal
+
+pub conclude-requires-clause-is_in : goal.conclude-requires-clause-is_in
+conclude-requires-clause-is_in c =
+    is_in-started c.requires.may.0 c.args.server.now c.args.c c.start.new.self c.requires.may.1.fits
+    (may_start c.requires.may.0 c.args.server.now c.args.c c.requires.may.1 c.requires.waiting) c.start.ensures
+
+pub new-requires-clause-range : goal.new-requires-clause-range
+new-requires-clause-range c =
+    range_on c.requires.may.0 c.args.server.now c.args.c (request_of c.in-Work.command)
+    (begins_on c.requires.may.0 c.args.server.now c.args.c c.in-Work.command c.in_ok-first.first c.requires.may.1 c.requires.waiting
+    (c.in_ok-first.ensures c.requires.may.0 c.requires.may.1) c.in-Work.is)
+
+pub new-requires-clause-data_length : goal.new-requires-clause-data_length
+new-requires-clause-data_length c =
+    let on : BeginsOn c.requires.may.0 c.args.server.now c.args.c (request_of c.in-Work.command) =
+    begins_on c.requires.may.0 c.args.server.now c.args.c c.in-Work.command c.in_ok-first.first c.requires.may.1 c.requires.waiting
+    (c.in_ok-first.ensures c.requires.may.0 c.requires.may.1) c.in-Work.is in
+    let sent = sent_on c.requires.may.0 c.args.server.now c.args.c (request_of c.in-Work.command) c.take_sent-sent.result on
+    (c.take_sent-sent.ensures.sent on.may.a on.may.a_is) in
+    ap (λ (x : DataOut). has_data (request_of c.in-Work.command) x) sent ∙ on.with_data
+
+pub new-requires-clause-unmoved : goal.new-requires-clause-unmoved
+new-requires-clause-unmoved c =
+    unmoved_on c.requires.may.0 c.args.server.now c.args.c (request_of c.in-Work.command)
+    (begins_on c.requires.may.0 c.args.server.now c.args.c c.in-Work.command c.in_ok-first.first c.requires.may.1 c.requires.waiting
+    (c.in_ok-first.ensures c.requires.may.0 c.requires.may.1) c.in-Work.is)
+
+pub returns-in-Reply-clause-moves : goal.returns-in-Reply-clause-moves
+returns-in-Reply-clause-moves c s work =
+    let may : MayStart s c.args.server.now c.args.c = may_start s c.args.server.now c.args.c work c.requires.waiting in
+    let plan = begins_with_reply (capacity s) (plan_of_start s c.args.c) _ _ c.in-Reply.reply (subst (IsFirst s c.args.c) c.in-Reply.is (c.in_ok-first.ensures s work)) in
+    let left = c.conclude.ensures.ends c.in-Reply.reply refl in
+    starts_and_ends s c.args.server.now c.conclude.new.server c.args.c
+    (record { fits = work.fits; may = may; store = left.0.store; arrived = left.0.arrived; known = left.0.known })
+    c.in-Reply.reply c.conclude.new.entries.items c.conclude.result plan
+    (left.0.set ∙ ap (λ (ms : List Member). without ms c.args.c) c.start.ensures) left.0.commands
+    (left.1 ∙ ap (λ (es : List Entry). es ++ Ended c.args.c c.in-Reply.reply ∷ [])
+    (c.push_reserved.ensures.items ∙ ap (λ (es : List Entry). es ++ Started c.args.c ∷ []) c.requires.empty))
+    (left.2 ∙ ap (λ (ms : List Member). ended_of_member (member_of ms c.args.c) c.in-Reply.reply) c.start.ensures)
+
+pub returns-in-Work-clause-moves : goal.returns-in-Work-clause-moves
+returns-in-Work-clause-moves c s work =
+    let on : BeginsOn s c.args.server.now c.args.c (request_of c.in-Work.command) =
+    begins_on s c.args.server.now c.args.c c.in-Work.command c.in_ok-first.first work c.requires.waiting (c.in_ok-first.ensures s work) c.in-Work.is in
+    let out = c.take_sent-sent.ensures.left on.may.a on.may.a_is in
+    starts_on s c.args.server.now
+    (record { store = c.args.server.now.store; set = c.start.new.self; commands = c.begin.new.commands; arrived = c.args.server.now.arrived; known = c.args.server.now.known })
+    c.args.c (request_of c.in-Work.command) c.take_sent-sent.result c.args.server.now.known.settings c.new.result c.push_reserved.new.self.items _ on
+    (record { fits = work.fits; may = on.may; store = refl; arrived = refl; known = refl }) work.fits.known.settings
+    (sent_on s c.args.server.now c.args.c (request_of c.in-Work.command) c.take_sent-sent.result on (c.take_sent-sent.ensures.sent on.may.a on.may.a_is))
+    c.new.ensures.value c.start.ensures
+    (both_replaced c.args.server.now.commands.items c.take_sent-sent.new.commands.items c.begin.new.commands.items c.args.c on.may.a c.new.result out
+    (c.begin.ensures _ out.own))
+    (c.push_reserved.ensures.items ∙ ap (λ (es : List Entry). es ++ Started c.args.c ∷ []) c.requires.empty)
+    refl

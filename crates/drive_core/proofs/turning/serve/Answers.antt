@@ -1,0 +1,22 @@
+use Rattle.std.proofs.Common.{◌≡◌, sym, subst}
+use Rattle.drive_core.specs.declared.event.Event.{Event}
+use Rattle.drive_core.specs.declared.event.Event.TheVariants as event
+use Rattle.drive_core.specs.Scene.{Scene}
+use Rattle.drive_core.specs.Serving.{MayServe}
+use Rattle.drive_core.proofs.turning.serve.Goals as goal
+
+pub arrive-requires-clause-may : goal.arrive-requires-clause-may
+arrive-requires-clause-may c = (c.requires.may.0, subst (λ (e : Event). MayServe c.requires.may.0 c.args.server.now e) c.in-Arrive.is c.requires.may.1)
+
+pub happen-requires-clause-may : goal.happen-requires-clause-may
+happen-requires-clause-may c = (c.requires.may.0, subst (λ (e : Event). MayServe c.requires.may.0 c.args.server.now e) c.in-World.is c.requires.may.1)
+
+pub serve_work-requires-clause-may : goal.serve_work-requires-clause-may
+serve_work-requires-clause-may c =
+    let may : MayServe c.requires.may.0 c.args.server.now (event.Work c.in-Work.c) =
+    subst (λ (e : Event). MayServe c.requires.may.0 c.args.server.now e) c.in-Work.is c.requires.may.1 in
+    (c.requires.may.0, record { fits = may.fits; free = may.free })
+
+pub serve_work-requires-in-Some-clause-may : goal.serve_work-requires-in-Some-clause-may
+serve_work-requires-in-Some-clause-may c =
+    (c.requires.may.0, record { fits = c.requires.may.1.fits; free = c.in-Some.ensures.free c.requires.may.0 c.requires.may.1.fits })

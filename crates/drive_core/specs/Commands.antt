@@ -1,0 +1,119 @@
+-- How a command that is in stands.
+use Rattle.std.specs.Prelude.{◌≡◌, ℕ, ◌<◌, ◌≤◌, ◌==◌, Bool, true, false, IsTrue, List, [], length, slice_index, Option, Some, None, Result, Ok, Err}
+use Rattle.std.specs.Option.{option_map_or, is_some}
+use Rattle.sense_data.specs.declared.sense.Sense.{Sense}
+use Rattle.task_set.specs.declared.member.Member.{Member}
+use Rattle.task_set.specs.Members.{member_of}
+use Rattle.read_recovery.specs.Stages.{Progress, next_stage}
+use Rattle.mode_pages.specs.declared.settings.Settings.{Settings}
+use Rattle.platter_model.specs.declared.op.Op.{Op}
+use Rattle.geometry_map.specs.Size.{capacity_of}
+use Rattle.geometry_map.specs.DefectMap.{DefectMap, place_of}
+use Rattle.cdb_reader.specs.declared.plan.Reading as reading
+use Rattle.cdb_reader.specs.declared.plan.Plan.{Plan}
+use Rattle.cdb_reader.specs.declared.plan.Plan.TheVariants.{Ending, Unread, Reading, Writing, Syncing}
+use Rattle.cdb_reader.specs.Read.{read_of}
+use Rattle.cdb_reader.specs.Request.{Request}
+use Rattle.command_engine.specs.declared.step.Recovery.{Recovery}
+use Rattle.command_engine.specs.declared.step.Step.{Step}
+use Rattle.command_engine.specs.declared.step.Step.TheVariants.{Trying}
+use Rattle.command_engine.specs.Course.{Course}
+use Rattle.command_engine.specs.Need.{end_of}
+use Rattle.command_engine.specs.Ending.{recovered_error}
+use Rattle.block_machine.specs.Blocks.{is_dirty}
+use Rattle.block_machine.specs.Entries.{recovery_within}
+use Rattle.block_machine.specs.State.{Duty}
+use Rattle.drive_core.specs.declared.accepted.Accepted.{Accepted}
+use Rattle.drive_core.specs.Scene.{Scene, last_found}
+use Rattle.drive_core.specs.Holds.{held_block}
+use Rattle.drive_core.specs.Evidence.{lba, FailedBelow}
+use Rattle.drive_core.specs.Served.{is_served, is_served_plan}
+
+-- what a scene has of one command: the map, the command in the set, what it asks for and owes, its window, the mode values with
+-- which it started, its last recovery, and whether the block that it holds is dirty
+pub record View : Type 0 where
+  pub map : DefectMap
+  pub member : Option Member
+  pub duty : Duty
+  pub window : List Op
+  pub settings : Settings
+  pub recovered : Option Recovery
+  pub holds_dirty : Bool
+
+abbrev pub view : Scene → ℕ → View
+view s c = record {
+  map = s.map;
+  member = member_of s.hist.set c;
+  duty = s.hist.duties c;
+  window = s.windows c;
+  settings = s.settings c;
+  recovered = s.recovered c;
+  holds_dirty = option_map_or (λ b. is_dirty (s.hist.blocks b)) (held_block s c) false;
+}
+
+-- a command that didn't start yet
+pub record IsWaiting (v : View) (m : Member) (a : Accepted) : Type 0 where
+  pub started : m.started ≡ false
+  pub code : v.duty.code ≡ slice_index a.cdb 0
+  pub asks : v.duty.asks ≡ read_of a.cdb a.sent (capacity_of v.map.size)
+  pub sent : v.duty.sent ≡ a.sent
+  pub owes : v.duty.owes ≡ None
+  pub window : v.window ≡ []
+  pub recovered : v.recovered ≡ None
+  pub served : IsTrue (is_served v.duty.asks)
+
+-- a read at the block that comes next: the stages so far failed, and what was tried or hardened isn't dirty
+pub record IsTrying (v : View) (r : reading.Reading) (p : Progress) : Type 0 where
+  pub left : r.at < r.end
+  pub next : is_some (next_stage p) ≡ true
+  pub retry : p.retry ≡ v.settings.retry
+  pub failed : FailedBelow v.window (place_of v.map (lba r.at)) p.retry p.failed
+  pub unfound : last_found v.window ≡ None
+  pub fresh : (length v.window == 0) ≡ (p.failed == 0)
+  pub clean : v.holds_dirty ≡ false
+
+-- a command at the block that comes next, between its turns
+abbrev pub IsAtBlock : View → Plan → Step → Type 0
+IsAtBlock v (Reading r) (Trying p) = IsTrying v r p
+IsAtBlock v (Writing w) (Trying p) = (v.window ≡ []) × (w.at < w.end)
+IsAtBlock v (Syncing y) (Trying p) = (v.window ≡ []) × (y.at < y.end)
+IsAtBlock v plan step = ⊥
+
+-- a recovery that is told is one of the command's own blocks
+abbrev pub IsOwnRecovery : Result Request Sense → Option Recovery → Type 0
+IsOwnRecovery asks None = Unit {0}
+IsOwnRecovery asks (Some recovery) = IsTrue (option_map_or (recovery_within asks) (recovered_error recovery).sense false)
+
+-- the blocks that a command is still to get are its own, so a recovery of each may be told; a write that is verified gets all its
+-- blocks in the end
+abbrev pub IsOwnRange : Result Request Sense → Plan → Type 0
+IsOwnRange asks (Reading r) = (recovery : Recovery) → r.at ≤ recovery.b.0 → recovery.b.0 < r.end → IsOwnRecovery asks (Some recovery)
+IsOwnRange asks (Writing w) =
+    w.verifies ≡ true → (recovery : Recovery) → w.from ≤ recovery.b.0 → recovery.b.0 < w.end → IsOwnRecovery asks (Some recovery)
+IsOwnRange asks plan = Unit {0}
+
+-- a command that is at work: it goes by the plan and the mode values that the history has for it
+pub record IsWorking (v : View) (m : Member) (w : Course) : Type 0 where
+  pub started : m.started ≡ true
+  pub owes : v.duty.owes ≡ Some w.plan
+  pub settings : v.settings ≡ w.settings
+  pub recovered : v.recovered ≡ w.recovered
+  pub at_block : IsAtBlock v w.plan w.step
+  pub range : end_of w.plan ≤ capacity_of v.map.size
+  pub own_recovery : IsOwnRecovery v.duty.asks w.recovered
+  pub own_range : IsOwnRange v.duty.asks w.plan
+  pub served : IsTrue (is_served_plan w.plan)
+
+abbrev pub IsUnderWay : View → Member → Accepted → Option Course → Type 0
+IsUnderWay v m a None = IsWaiting v m a
+IsUnderWay v m a (Some w) = IsWorking v m w
+
+pub record IsCommand (v : View) (a : Accepted) : Type 0 where
+  pub member : Member
+  pub is_in : v.member ≡ Some member
+  pub under_way : IsUnderWay v member a a.work
+
+-- a command stands as the history has it; none where it isn't in
+abbrev pub IsStaged : View → Option Accepted → Type 0
+IsStaged v None = v.member ≡ None
+IsStaged v (Some a) = IsCommand v a

@@ -1,0 +1,108 @@
+-- What is said of one turn.
+use Rattle.std.specs.Prelude.{◌≡◌, ℕ, ◌<◌, ◌==◌, ◌||◌, not, Bool, true, false, IsTrue, List, [], ◌∷◌, ◌++◌, length, Option, Some, None}
+use Rattle.std.specs.List.{list_any, list_all}
+use Rattle.std.specs.Option.{option_map_or}
+use Rattle.disk_base.specs.Along.{Along}
+use Rattle.disk_base.specs.declared.address.Lba.{Lba}
+use Rattle.disk_base.specs.declared.address.Psn.{Psn}
+use Rattle.disk_base.specs.declared.block.Value.{Value}
+use Rattle.platter_model.specs.declared.op.Op.{Op}
+use Rattle.platter_model.specs.declared.op.Op.TheVariants as op
+use Rattle.platter_model.specs.declared.world.World.{World}
+use Rattle.platter_model.specs.declared.world.World.TheVariants as world
+use Rattle.platter_model.specs.TrueLog.{strays}
+use Rattle.geometry_map.specs.DefectMap.{DefectMap, place_of}
+use Rattle.sector_store.specs.Stored.{Stands}
+use Rattle.block_machine.specs.declared.entry.Entry.{Entry}
+use Rattle.block_machine.specs.declared.entry.Entry.TheVariants.{Get, Put, Harden, GiveUp}
+use Rattle.block_machine.specs.declared.turn.Label.{Label}
+use Rattle.block_machine.specs.declared.turn.Label.TheVariants.{Arrive, Work}
+use Rattle.block_machine.specs.declared.turn.Label.TheVariants as label
+use Rattle.block_machine.specs.Blocks.{Blocks, allowed, same_value}
+use Rattle.block_machine.specs.Steps.{begun, entry_after}
+use Rattle.block_machine.specs.Turns.{entries_lawful, blocks_lawful}
+use Rattle.drive_core.specs.Scene.{Scene, Beat, capacity, scene_after}
+use Rattle.drive_core.specs.Evidence.{Shows, lba}
+use Rattle.drive_core.specs.Holds.{holder_besides}
+
+-- while no operation is a stray, each map that recovery may take has for each block a value that the history allows it
+abbrev pub IsAllowed : Blocks → Lba → Value → Type 0
+IsAllowed blocks b v = IsTrue (list_any (same_value v) (allowed (blocks b.0)))
+
+abbrev pub IsStood : DefectMap → List Op → Blocks → Type 0
+IsStood m ops blocks = strays ops ≡ 0 → Stands (IsAllowed blocks) m ops
+
+-- the blocks that entries change or get
+abbrev pub block_of : Entry → Option Lba
+block_of (Get c b v) = Some b
+block_of (Put c b v) = Some b
+block_of (Harden who b) = Some b
+block_of (GiveUp b) = Some b
+block_of other = None
+
+abbrev pub is_on : Lba → Entry → Bool
+is_on b e = option_map_or (λ q. q.0 == b.0) (block_of e) false
+
+-- all entries on blocks are on this one
+abbrev pub are_on : Lba → List Entry → Bool
+are_on b entries = list_all (λ e. option_map_or (λ q. q.0 == b.0) (block_of e) true) entries
+
+-- entries are on one block at most
+abbrev pub IsOnOneBlock : List Entry → Type 0
+IsOnOneBlock entries = (b : Lba) × IsTrue (are_on b entries)
+
+-- the sector of an operation that reads or writes one
+abbrev pub sector_tried : Op → Option Psn
+sector_tried (op.Wrote payload) = Some payload.psn
+sector_tried (op.Torn payload tear) = Some payload.psn
+sector_tried (op.WriteFailed p) = Some p
+sector_tried (op.Fetched p attempt) = Some p
+sector_tried (op.Tried at p stage found) = Some p
+sector_tried other = None
+
+abbrev pub is_at_sector : Psn → Op → Bool
+is_at_sector p o = option_map_or (λ q. q.0 == p.0) (sector_tried o) false
+
+-- at most one fetch with its try, or one write
+abbrev pub is_one_step : List Op → Bool
+is_one_step [] = true
+is_one_step (op.Fetched p attempt ∷ op.Tried at q stage found ∷ []) = p.0 == q.0
+is_one_step (op.Wrote payload ∷ []) = true
+is_one_step (op.WriteFailed p ∷ []) = true
+is_one_step (op.Torn payload tear ∷ op.Cut ∷ []) = true
+is_one_step other = false
+
+-- the operations of what happens from outside; of power and minutes nothing is said yet
+abbrev pub IsWorldStep : World → List Op → Type 0
+IsWorldStep (world.Damage d) ops = ops ≡ op.Damaged d ∷ []
+IsWorldStep (world.Fault p) ops = ops ≡ op.Faulty p ∷ []
+IsWorldStep (world.Arm k tear) ops = ops ≡ []
+IsWorldStep other ops = Unit {0}
+
+-- a turn's operations are those of one step, and it isn't empty
+abbrev pub IsStep : Label → List Entry → List Op → Type 0
+IsStep (Arrive i) entries ops = ops ≡ []
+IsStep (label.World w) entries ops = IsWorldStep w ops
+IsStep other entries ops = IsTrue (is_one_step ops) × IsTrue (not (length ops == 0) || not (length entries == 0))
+
+-- no other command holds a block when a turn of work begins
+abbrev pub IsFree : Scene → Label → Lba → Type 0
+IsFree s (Work c) b = holder_besides s c b.0 ≡ None
+IsFree s other b = Unit {0}
+
+-- the turn has an entry on a block, or an operation at its place
+abbrev pub is_about : Scene → Beat → Lba → Bool
+is_about s t b = list_any (is_on b) t.entries || list_any (is_at_sector (place_of s.map b)) t.ops
+
+pub record GoodTurn (s : Scene) (t : Beat) : Type 0 where
+  -- it may come, as far as commands go
+  pub tasks : IsTrue (entries_lawful (capacity s) t.label (begun s.hist t.label) t.entries)
+  -- and as far as blocks go, while no operation is a stray
+  pub blocks : strays (s.ops ++ t.ops) ≡ 0 → IsTrue (blocks_lawful (capacity s) s.hist.blocks t.entries)
+  pub shown : Along (entry_after (capacity s) t.label) (Shows s t) (begun s.hist t.label) t.entries
+  pub step : IsStep t.label t.entries t.ops
+  pub one_block : IsOnOneBlock t.entries
+  -- nobody but the holder is about a block
+  pub held : (b : Lba) → b.0 < capacity s → is_about s t b ≡ true → IsFree s t.label b
+  -- what is stored after it
+  pub stands : IsStood s.map (s.ops ++ t.ops) (scene_after s t).hist.blocks

@@ -1,0 +1,16 @@
+-- What the type of a drive keeps.
+use Rattle.std.specs.Prelude.{◌≤◌, length, map}
+use Rattle.disk_base.specs.Along.{Along}
+use Rattle.block_machine.specs.declared.turn.Turn.{Turn}
+use Rattle.drive_core.specs.declared.server.Server.{Server}
+use Rattle.drive_core.specs.Scene.{scene_at_start, scene_after, factory_ops}
+use Rattle.drive_core.specs.GoodTurn.{GoodTurn}
+use Rattle.drive_core.specs.Run.{Run, beat_of, FollowFrom, scene_of}
+use Rattle.drive_core.specs.Fits.{Fits}
+
+-- each turn of the run is good, the drive's parts are what they have come to, and no more commands came than there are turns
+pub record Kept (r : Run) (d : Server) : Type 0 where
+  pub follow : FollowFrom (length (factory_ops r.size r.primary)) r.turns (length r.ops)
+  pub good : Along scene_after GoodTurn (scene_at_start r.size r.primary) (map (beat_of r.ops) r.turns)
+  pub fits : Fits (scene_of r) d
+  pub numbered : d.arrived ≤ length r.turns

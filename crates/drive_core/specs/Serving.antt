@@ -1,0 +1,25 @@
+-- Which events are served where, and what their turns come to.
+use Rattle.std.specs.Prelude.{◌≡◌, ◌+◌, ◌^◌, ◌<◌, List, Some, None}
+use Rattle.block_machine.specs.declared.entry.Entry.{Entry}
+use Rattle.drive_core.specs.declared.event.Event.{Event}
+use Rattle.drive_core.specs.declared.server.Server.{Server}
+use Rattle.drive_core.specs.declared.turning.Served.{Served}
+use Rattle.drive_core.specs.Scene.{Scene}
+use Rattle.drive_core.specs.Fits.{Fits}
+use Rattle.drive_core.specs.Able.{refusal_on}
+use Rattle.drive_core.specs.Moves.{Moves}
+use Rattle.drive_core.specs.Served.{IsServed}
+use Rattle.drive_core.specs.Turning.{label_of, arrives_as, BeginsWith}
+
+-- the parts of a drive fit a scene in which an event is served and not refused; one more command has a number
+pub record MayServe (s : Scene) (d : Server) (e : Event) : Type 0 where
+  pub fits : Fits s d
+  pub served : IsServed s.map.size e
+  pub free : refusal_on s 0 e ≡ None
+  pub numbered : d.arrived + 1 < 2 ^ 32
+
+-- what was made is the turn of an event
+pub record IsServedTurn (s : Scene) (e : Event) (old new : Server) (entries : List Entry) (made : Served) : Type 0 where
+  pub label : label_of s e ≡ Some made.label
+  pub arrival : BeginsWith (arrives_as s.hist.arrived e) entries
+  pub moves : Moves made.label s old new entries made.ended

@@ -1,0 +1,224 @@
+//! The drive and its calls.
+ghost use Rattle.std.specs.Prelude.{◌≡◌, ◌↔◌, [], IsTrue, IfOk, OnErr, MatchOption, MatchResult};
+ghost use Rattle.geometry_map.specs.DefectMap.{IsPrimaryList};
+ghost use Rattle.drive_core.specs.Run.{IsGoodRun, run_at_start, scene_of};
+ghost use Rattle.drive_core.specs.Able.{refusal, needs_power, pick_of};
+ghost use Rattle.drive_core.specs.Turning.{AddsTurn, coming_after};
+ghost use Rattle.drive_core.specs.Progress.{IsApart, SomebodyIsAble};
+ghost use Rattle.drive_core.specs.Served.{IsServed};
+ghost use Rattle.drive_core.specs.Starting.{KnowsStart};
+
+use crate::server::{Server, reserve};
+use crate::standing::stands;
+use crate::turning::serve;
+use crate::{Event, Pick, TurnAnswer, Waiting, able};
+use block_machine::{Entries, Turn, Turns};
+use disk_base::{NoMemory, Psn};
+use geometry_map::{Size, two_blocks_are_never_at_one_sector};
+use history_replay::{Known, Scanning};
+use mode_pages::Settings;
+use platter_model::Ops;
+use scan_log::ScanLog;
+use sector_store::{Store, StoreFault};
+use sense_data::Attentions;
+use std::alloc::Global;
+use std::marker::Model;
+use task_set::{TaskSet, some_command_may_run};
+
+// As many turns a drive can number.
+const TURNS_MAX: usize = 4_294_967_294;
+
+/// A drive on its platter, with all its turns. Contracts see what it did: its measures, its turns, the operations of its
+/// platter, and how many arrivals are still expected.
+#[derive(Drop)]
+pub struct Drive {
+    alloc: Global,
+    server: Server,
+    turns: Vec<Turn>,
+    coming: u32,
+}
+
+impl Model for Drive {
+    ghost use Rattle.drive_core.specs.Run.{Run, run_of};
+    ghost use Rattle.drive_core.specs.Kept.{Kept};
+
+    ghost Value = { Run };
+
+    ghost view = { λ d. run_of d.server.store d.turns.items d.coming };
+
+    ghost invariant = { λ d. Kept (run_of d.server.store d.turns.items d.coming) d.server };
+}
+
+impl Drive {
+    /// A drive of this size, whose sectors in the list are bad from the factory on: all its blocks are zeros.
+    pub fn factory(alloc: Global, size: Size, primary: &[Psn]) -> Result<Self, StoreFault>
+        ensures { MatchResult result
+            (λ drive. (drive ≡ run_at_start size primary.now) × IsPrimaryList size primary.now)
+            (λ fault. (fault ≡ StoreFault.Primary) ↔ (IsPrimaryList size primary.now → ⊥)) }
+    {
+        let store = Store::factory(alloc, size, primary)?;
+        stands(&store);
+        two_blocks_are_never_at_one_sector();
+        let server = Server {
+            store,
+            set: TaskSet::new(),
+            commands: Vec::new(alloc),
+            arrived: 0,
+            known: known_at_start(alloc, size.capacity())?,
+        };
+        Ok(Drive {
+            alloc,
+            server,
+            turns: Vec::new(alloc),
+            coming: 0,
+        })
+    }
+
+    /// Holds of every drive: its run is good.
+    pub fn is_good(&self)
+        ensures { IsGoodRun self.now }
+    {
+        let platter = self.server.store.platter();
+        platter.has_a_true_log();
+    }
+
+    /// Makes the turn of an event, or answers why there is none. Want of memory leaves the drive as it was.
+    pub fn turn(&mut self, event: Event) -> Result<TurnAnswer, NoMemory>
+        requires { IsServed self.old.size event }
+        ensures turn { IfOk result (λ given. MatchOption (refusal self.old event)
+            (AddsTurn self.old event given self.new)
+            (λ refused. (given ≡ refused) × (self.new ≡ self.old))) }
+        ensures err { OnErr result (self.new ≡ self.old) }
+    {
+        if let Some(refused) = self.refusal(&event) {
+            return Ok(refused);
+        }
+        let mut entries = reserve(self.alloc, &mut self.server, &mut self.turns)?;
+        let from = self.server.store.platter().ops().len() as u64;
+        let coming = coming_after(self.coming, &event);
+        let served = serve(self.alloc, &mut self.server, event, &mut entries)?;
+        self.coming = coming;
+        self.turns.push_reserved(Turn {
+            label: served.label,
+            ops_from: from,
+            ops_to: self.server.store.platter().ops().len() as u64,
+            entries: Entries::from_vec(entries),
+        });
+        Ok(TurnAnswer::Done {
+            number: self.turns.len() as u64,
+            ended: served.ended,
+            scanned: false,
+        })
+    }
+
+    // Why an event is refused; none where its turn comes.
+    fn refusal(&self, event: &Event) -> Option<TurnAnswer>
+        ensures { result ≡ refusal self.now event.now }
+    {
+        if needs_power(event) && self.server.store.platter().is_off() {
+            return Some(TurnAnswer::Off);
+        }
+        if self.turns.len() >= TURNS_MAX {
+            return Some(TurnAnswer::Spent);
+        }
+        match event {
+            Event::Work(c) => able::refusal_of_work(&self.server, *c, self.coming),
+            Event::Any(x) => match able::any(&self.server, *x) {
+                Some(_) => None,
+                None => Some(TurnAnswer::Idle {
+                    coming: self.coming,
+                }),
+            },
+            _ => None,
+        }
+    }
+
+    /// The turn that a number picks among those that may come: what arrives by initiator, then commands by age.
+    pub fn pick(&self, waiting: &Waiting, x: u32) -> Option<Pick>
+        ensures { result ≡ pick_of self.now waiting.now x }
+    {
+        if self.server.store.platter().is_off() || self.turns.len() >= TURNS_MAX {
+            return None;
+        }
+        able::picked(&self.server, waiting, x)
+    }
+
+    /// Holds of every drive on which no two commands hold one block: while commands are in, work on one of them may come.
+    pub fn somebody_is_able(&self)
+        ensures { IsApart (scene_of self.now) → SomebodyIsAble (scene_of self.now) }
+    {
+        some_command_may_run();
+        let _ = self.server.set.members();
+    }
+
+    /// So many arrivals are still to come.
+    pub fn expect(&mut self, coming: u32)
+        ensures { self.new ≡ record self.old { coming = coming } }
+    {
+        self.coming = coming;
+    }
+
+    /// Whether no command is in.
+    pub fn is_idle(&self) -> bool
+        ensures { IsTrue result ↔ ((scene_of self.now).hist.set ≡ []) }
+    {
+        self.server.set.members().is_empty()
+    }
+
+    pub fn turns(&self) -> &[Turn]
+        ensures { result.now ≡ self.now.turns }
+    {
+        self.turns.as_slice()
+    }
+
+    pub fn store(&self) -> &Store
+        ensures ops { result.now.platter.ops ≡ self.now.ops }
+        ensures size { result.now.map.size ≡ self.now.size }
+    {
+        &self.server.store
+    }
+
+    /// All turns, and all operations of the platter, the factory's first.
+    pub fn into_parts(self) -> (Turns, Ops)
+        ensures turns { result.0 ≡ self.turns }
+        ensures ops { result.1 ≡ self.ops }
+    {
+        let Drive { server, turns, .. } = self;
+        let Server { store, .. } = server;
+        (Turns::from_vec(turns), store.into_ops())
+    }
+}
+
+// What is known of a fresh drive.
+fn known_at_start(alloc: Global, capacity: u64) -> Result<Known, NoMemory>
+    ensures { IfOk result (KnowsStart capacity) }
+{
+    Ok(Known {
+        capacity,
+        settings: Settings::default_values(),
+        waiting: Attentions::none(),
+        corrupt: false,
+        scan: Scanning {
+            minutes: 0,
+            scanned: 0,
+            log: ScanLog::new(alloc)?,
+        },
+    })
+}
+
+// Only what happens from outside comes while the power is off.
+fn needs_power(event: &Event) -> bool
+    ensures { result ≡ needs_power event.now }
+{
+    !matches!(event, Event::World(_))
+}
+
+// Each arrival takes one off those that are expected.
+fn coming_after(coming: u32, event: &Event) -> u32
+    ensures { result ≡ coming_after coming event.now }
+{
+    match event {
+        Event::Arrive(_) => coming.saturating_sub(1),
+        _ => coming,
+    }
+}

@@ -1,0 +1,41 @@
+use disk_base::{Attribute, Cdb, DataOut, Function, Initiator, Tag};
+use platter_model::World;
+
+/// What arrives from an initiator.
+#[derive(Debug, Drop)]
+pub enum Arrival {
+    Command {
+        initiator: Initiator,
+        tag: Tag,
+        attribute: Attribute,
+        cdb: Cdb,
+        sent: DataOut,
+    },
+    Function {
+        initiator: Initiator,
+        what: Function,
+    },
+}
+
+/// What a turn is about.
+#[derive(Debug, Drop)]
+pub enum Event {
+    Arrive(Arrival),
+    /// Work on the command of this number.
+    Work(u32),
+    /// Work on the move of this number.
+    Job(u32),
+    /// The turn that `pick` gives for this number while nothing waits outside.
+    Any(u32),
+    Scan,
+    Destage,
+    World(World),
+}
+
+/// Who holds a block from one turn to the next.
+#[derive(Clone, Copy, Debug, PartialEq, Eq)]
+pub enum Holder {
+    Command(u32),
+    Job(u32),
+    Scan,
+}

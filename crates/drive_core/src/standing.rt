@@ -1,0 +1,19 @@
+//! What holds of every store.
+ghost use Rattle.std.specs.Prelude.{◌^◌, ◌<◌};
+ghost use Rattle.sector_store.specs.Maps.{MayBeRecovered};
+ghost use Rattle.sector_store.specs.State.{IsStore};
+ghost use Rattle.sector_store.specs.Stored.{KeepsBlocks};
+
+use map_generations::present_maps_may_be_taken;
+use sector_store::{Store, recovery_finds_what_is_stored};
+
+/// Its map is there, and recovery may take it; whatever recovery takes has the values that are stored by it.
+pub fn stands(store: &Store)
+    ensures there { IsStore store.now }
+    ensures finds { KeepsBlocks store.now.map store.now.platter.ops store.now.platter.ops }
+    ensures may { store.now.map.number < 2 ^ 63 → MayBeRecovered store.now.map.size store.now.platter.ops store.now.map }
+{
+    store.stands();
+    present_maps_may_be_taken();
+    recovery_finds_what_is_stored();
+}
