@@ -4,8 +4,6 @@
 #![tactic(auto)]
 
 mod able;
-#[cfg(test)]
-mod able_tests;
 mod accepted;
 mod answer;
 mod arriving;
@@ -18,14 +16,10 @@ mod server;
 mod standing;
 mod starting;
 mod storing;
-#[cfg(test)]
-mod sync_tests;
 mod syncing;
 mod taking;
 mod turning;
 mod worldly;
-#[cfg(test)]
-mod write_tests;
 
 pub use answer::{Ended, Pick, TurnAnswer, Waiting};
 pub use drive::Drive;
