@@ -1,10 +1,11 @@
 -- A turn in which a command arrives.
-use Rattle.std.proofs.Common.{◌≡◌, ◌≢◌, ℕ, ◌+◌, ◌≤◌, ◌<◌, Bool, true, false, not, cond, eqb, ltb, length, List, [], ◌∷◌, ◌++◌, Option, Some, None, refl, sym, ap, ◌∙◌, subst, arith, append-nil}
+use Rattle.std.proofs.Common.{◌≡◌, ◌≢◌, ℕ, ◌+◌, ◌≤◌, ◌<◌, Bool, true, false, not, cond, eqb, ltb, length, List, [], ◌∷◌, ◌++◌, Option, Some, None, refl, sym, ap, ◌∙◌, subst, arith, append-nil, ⊎_elim}
 use Rattle.std.specs.Prelude.{◌&&◌, All, slice_index, IsTrue}
 use Rattle.std.specs.Option.{option_and_then}
 use Rattle.std.specs.List.{find}
-use Rattle.std.proofs.lemmas.Bool.{eq-eqb, ne_eqb, le-ltb, lt-ltb}
+use Rattle.std.proofs.lemmas.Bool.{cases_eq, eq-eqb, ne_eqb, le-ltb, lt-ltb}
 use Rattle.std.proofs.lemmas.List.Elements.{All-head, All-tail, All-push, All-weaker}
+use Rattle.disk_base.specs.At.{put_at}
 use Rattle.disk_base.specs.declared.address.Tag.{Tag}
 use Rattle.platter_model.specs.declared.op.Op.{Op}
 use Rattle.platter_model.specs.Sector.{is_faulty}
@@ -31,6 +32,7 @@ use Rattle.drive_core.specs.declared.server.Server.{Server}
 use Rattle.drive_core.specs.declared.answer.Ended as told_end
 use Rattle.drive_core.specs.Scene.{Scene, capacity, scene_after}
 use Rattle.drive_core.specs.Evidence.{lba, Shows, IsEndShown}
+use Rattle.drive_core.specs.Holds.{held_by_plan, held_block}
 use Rattle.drive_core.specs.GoodTurn.{GoodTurn, IsStood}
 use Rattle.drive_core.specs.Accepting.{accepted_of}
 use Rattle.drive_core.specs.Arriving.{entry_of}
@@ -41,7 +43,8 @@ use Rattle.drive_core.specs.Moves.{Moves, beat}
 use Rattle.drive_core.specs.Served.{is_served, is_served_cdb}
 use Rattle.drive_core.proofs.Tables.{put_at-own, put_at-other}
 use Rattle.drive_core.proofs.Keyed.{find-push_own, find-push_other}
-use Rattle.drive_core.proofs.Elsewhere.{IsAlike, staged-alike, all_staged}
+use Rattle.drive_core.proofs.Elsewhere.{IsAlike, held-alike, staged-alike, all_staged}
+use Rattle.drive_core.proofs.Apart.{held_out, apart_none}
 use Rattle.drive_core.proofs.Parts.{cached_got, quiet_got}
 use Rattle.drive_core.proofs.Closing.{has_ops}
 use Rattle.drive_core.proofs.Serves.{served_cdb}
@@ -66,6 +69,13 @@ module _ (s : Scene) (d e : Server) (x : Arriving) (c : ℕ) (fits : Fits s d) (
   -- the scene after entries of an arrival
   abbrev after : List Entry → Scene
   after entries = scene_after s (beat (Arrive x.initiator) entries [])
+
+  -- a command that arrives has an empty window
+  windows : (q : ℕ) → length (put_at c [] s.windows q) ≤ 50
+  windows q = ⊎_elim
+      (λ (own : q ≡ c). subst (λ (n : ℕ). length (put_at c [] s.windows n) ≤ 50) (sym own) (subst (λ (w : List Op). length w ≤ 50) (sym (put_at-own c [] s.windows)) (omega arith)))
+      (λ (other : q ≡ c → ⊥). subst (λ (w : List Op). length w ≤ 50) (sym (put_at-other c q [] s.windows other)) (fits.windows q))
+      (cases_eq q c)
 
   still_stands : IsStood s.map (s.ops ++ []) s.hist.blocks
   still_stands = subst (λ (ops : List Op). IsStood s.map ops s.hist.blocks) (sym (append-nil s.ops)) fits.stands
@@ -112,9 +122,7 @@ module _ (s : Scene) (d e : Server) (x : Arriving) (c : ℕ) (fits : Fits s d) (
           served = ap (λ (y : Duty). is_served y.asks) duty ∙ served_cdb x.cdb x.sent (capacity s) served;
         });
       } in
-      let others : (q : ℕ) → q ≢ c → IsStaged (view t q) (accepted_of e.commands.items q) = λ q other.
-      staged-alike s t q (accepted_of d.commands.items q) (accepted_of e.commands.items q)
-      (record {
+      let alike : (q : ℕ) → q ≢ c → IsAlike s t q = λ q other. record {
         map = refl;
         member = ap (λ (ms : List Member). member_of ms q) new_set ∙ find-push_other (λ (m : Member). m.task.c) c q s.hist.set member refl other;
         duty = put_at-other c q _ s.hist.duties other;
@@ -122,9 +130,13 @@ module _ (s : Scene) (d e : Server) (x : Arriving) (c : ℕ) (fits : Fits s d) (
         settings = refl;
         recovered = put_at-other c q None s.recovered other;
         dirty = λ n holds. refl;
-      })
+      } in
+      let others : (q : ℕ) → q ≢ c → IsStaged (view t q) (accepted_of e.commands.items q) = λ q other.
+      staged-alike s t q (accepted_of d.commands.items q) (accepted_of e.commands.items q) (alike q other)
       (ap (λ (xs : List Accepted). accepted_of xs q) commands_are ∙ find-push_other (λ (y : Accepted). y.c) c q d.commands.items a (ap (λ (y : Accepted). y.c) a_is) other)
       (fits.staged q) in
+      let unheld : held_block t c ≡ None =
+      (λ i. option_and_then (held_by_plan (t.windows c)) (option_and_then (λ (m : Member). (duty i).owes) (in_set i))) in
       let M : List Entry → Type 0 = λ es. Moves (Arrive x.initiator) s d e es None in
       let moves : M (entry_of c x ∷ []) = record {
         ops = [];
@@ -137,6 +149,8 @@ module _ (s : Scene) (d e : Server) (x : Arriving) (c : ℕ) (fits : Fits s d) (
           shown = (tt, tt);
           step = refl;
           one_block = (lba 0, refl);
+          own = tt;
+          window = windows;
           held = λ q below about. tt;
           stands = still_stands;
         };
@@ -162,6 +176,8 @@ module _ (s : Scene) (d e : Server) (x : Arriving) (c : ℕ) (fits : Fits s d) (
                 (omega arith));
           };
           staged = all_staged t e.commands.items c (subst (λ (o : Option Accepted). IsStaged (view t c) o) (sym own_member) own) others;
+          apart = apart_none s t c fits.apart (λ q other. held-alike s t q (alike q other)) unheld;
+          windows = windows;
           stands = still_stands;
         };
         counted = omega arith;
@@ -183,6 +199,15 @@ module _ (s : Scene) (d e : Server) (x : Arriving) (c : ℕ) (fits : Fits s d) (
       let owes : owed_by h c ≡ None = ap (λ (ms : List Member). option_and_then (λ (m : Member). (h.duties c).owes) (member_of ms c)) kept
       ∙ ap (option_and_then (λ (m : Member). (h.duties c).owes)) absent in
       let gone : member_of t.hist.set c ≡ None = ap (λ (ms : List Member). member_of ms c) new_set ∙ absent in
+      let alike : (q : ℕ) → q ≢ c → IsAlike s t q = λ q other. record {
+        map = refl;
+        member = ap (λ (ms : List Member). member_of ms q) new_set;
+        duty = put_at-other c q _ h.duties other ∙ put_at-other c q _ s.hist.duties other;
+        window = put_at-other c q [] s.windows other;
+        settings = refl;
+        recovered = put_at-other c q None s.recovered other;
+        dirty = λ n holds. refl;
+      } in
       let M : List Entry → Option told_end.Ended → Type 0 = λ es o. Moves (Arrive x.initiator) s d e es o in
       let moves : M (entry_of c x ∷ Ended c task_set_full ∷ []) (Some (ended_by x.initiator x.tag 0x28)) = record {
         ops = [];
@@ -195,6 +220,8 @@ module _ (s : Scene) (d e : Server) (x : Arriving) (c : ℕ) (fits : Fits s d) (
           shown = (tt, (subst (λ o. IsEndShown s (beat (Arrive x.initiator) (entry_of c x ∷ Ended c task_set_full ∷ []) []) c o task_set_full) (sym owes) tt, tt));
           step = refl;
           one_block = (lba 0, refl);
+          own = tt;
+          window = windows;
           held = λ q below about. tt;
           stands = still_stands;
         };
@@ -221,17 +248,10 @@ module _ (s : Scene) (d e : Server) (x : Arriving) (c : ℕ) (fits : Fits s d) (
           staged = all_staged t e.commands.items c
               (subst (λ (o : Option Accepted). IsStaged (view t c) o)
               (sym (ap (λ (xs : List Accepted). accepted_of xs c) commands_are ∙ not_accepted (view s c) (accepted_of d.commands.items c) (fits.staged c) absent)) gone)
-              (λ q other. staged-alike s t q (accepted_of d.commands.items q) (accepted_of e.commands.items q)
-              (record {
-                map = refl;
-                member = ap (λ (ms : List Member). member_of ms q) new_set;
-                duty = put_at-other c q _ h.duties other ∙ put_at-other c q _ s.hist.duties other;
-                window = put_at-other c q [] s.windows other;
-                settings = refl;
-                recovered = put_at-other c q None s.recovered other;
-                dirty = λ n holds. refl;
-              })
+              (λ q other. staged-alike s t q (accepted_of d.commands.items q) (accepted_of e.commands.items q) (alike q other)
               (ap (λ (xs : List Accepted). accepted_of xs q) commands_are) (fits.staged q));
+          apart = apart_none s t c fits.apart (λ q other. held-alike s t q (alike q other)) (held_out t c gone);
+          windows = windows;
           stands = still_stands;
         };
         counted = omega arith;

@@ -162,6 +162,8 @@ fresh_at size primary d is own fresh set commands arrived known =
         };
         tasks = record { set = set; arrived = arrived; came = All-nil _ };
         staged = λ c. subst (λ (cs : List Accepted). IsStaged (view (scene_at_start size primary) c) (accepted_of cs c)) (sym commands) refl;
+        apart = λ c q b of_c of_q. absurd (let never : None ≡ Some b = of_c in cc);
+        windows = λ c. omega arith;
         stands = stood size primary own present;
       };
       numbered = omega (arith, arrived);

@@ -140,6 +140,7 @@ half_none s c m plan b ops is_in owes present stands free quiet = record {
   step = quiet.step;
   b = b;
   one_block = refl;
+  own = refl;
   held = λ q below about. free_at s c b q free (quiet.about q below about);
   stands = stood_quiet s b ops present quiet stands;
   settings = refl;
@@ -207,6 +208,7 @@ half_got s c m plan later b v ops is_in owes below present stands free quiet may
       step = quiet.step;
       b = b;
       one_block = and_both (eqb b.0 b.0) true (eq-eqb b.0 b.0 refl) refl;
+      own = and_both _ _ (eq-eqb c c refl) refl;
       held = λ q within about. free_at s c b q free (⊎_elim (λ here. sym (eqb-true b.0 q.0 (left (eqb b.0 q.0) here))) (λ there. quiet.about q within there)
           (or_cases (list_any (is_on q) (Get c b v ∷ [])) (list_any (is_at_sector (place_of s.map q)) ops) about));
       stands = stood_got s b v ops present quiet stands is;

@@ -184,6 +184,7 @@ half_hardened s c b bytes plan then_plan is owes may =
       step = refl;
       b = b;
       one_block = and_both _ _ (eq-eqb b.0 b.0 refl) refl;
+      own = and_both _ _ (eq-eqb c c refl) refl;
       held = λ q below about. let same = written_about s b q bytes is.own_sector below about in ap (λ (n : ℕ). holder_besides s c n) same ∙ is.free;
       stands = stood_hardened s c b bytes is;
       settings = refl;

@@ -18,7 +18,10 @@ pub mod Doing
 pub mod HardenTurns
 pub mod Gets
 pub mod Tries
+pub mod Windows
+pub mod TurnExamples
 pub mod Parts
+pub mod Apart
 pub mod Fitting
 pub mod HardenParts
 pub mod GetTurns

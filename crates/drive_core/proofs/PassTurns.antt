@@ -52,6 +52,7 @@ half_passed_hardened s c from b bytes plan passed then_plan is owes may_pass may
       step = refl;
       b = b;
       one_block = and_both _ _ (eq-eqb b.0 b.0 refl) refl;
+      own = and_both _ _ (eq-eqb c c refl) (and_both _ _ (eq-eqb c c refl) refl);
       held = λ q below about. let same = written_about s b q bytes is.own_sector below about in ap (λ (n : ℕ). holder_besides s c n) same ∙ is.free;
       stands = stood_hardened s c b bytes is;
       settings = refl;
@@ -77,6 +78,7 @@ half_passed s c from to plan then_plan stood owes may high clean =
       step = refl;
       b = from;
       one_block = refl;
+      own = and_both _ _ (eq-eqb c c refl) refl;
       held = λ q below about. absurd (true≢false (sym about));
       stands = subst (λ ops. IsStood s.map ops s.hist.blocks) (sym (append-nil s.ops)) stood;
       settings = refl;

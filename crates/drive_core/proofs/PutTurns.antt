@@ -147,6 +147,7 @@ half_put s c b bytes plan then_plan is owes may =
       step = refl;
       b = b;
       one_block = and_both _ _ (eq-eqb b.0 b.0 refl) refl;
+      own = and_both _ _ (eq-eqb c c refl) refl;
       held = λ q below about. ap (λ (n : ℕ). holder_besides s c n) (put_about b.0 q.0 about) ∙ is.free;
       stands = subst (λ (ops : List Op). IsStood s.map ops (put_blocks s b bytes)) (sym (append-nil s.ops)) (stood_put s b bytes is.stood);
       settings = refl;
@@ -226,6 +227,7 @@ half_through s c b bytes plan put_plan then_plan is owes may may_harden =
       step = refl;
       b = b;
       one_block = and_both _ _ (eq-eqb b.0 b.0 refl) (and_both _ _ (eq-eqb b.0 b.0 refl) refl);
+      own = and_both _ _ (eq-eqb c c refl) (and_both _ _ (eq-eqb c c refl) refl);
       held = λ q below about. ap (λ (n : ℕ). holder_besides s c n) (through_about s b q is.own_sector below about) ∙ is.put.free;
       stands = stood_written s.map s.ops (s.ops ++ Wrote (placed s.map b bytes) ∷ []) b bytes s.hist.blocks (through_blocks s b bytes)
           (unstrayed s.ops _) is.put.stood is.may_be is.stores is.keeps (through-own s b bytes) (through-other s b bytes);

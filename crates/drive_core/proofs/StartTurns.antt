@@ -64,8 +64,10 @@ use Rattle.drive_core.specs.Fits.{Fits, HasOps, IsCached, IsPresentMap, KnowsHis
 use Rattle.drive_core.specs.Moves.{Moves, MayWork, beat}
 use Rattle.drive_core.proofs.Tables.{put_at-own, put_at-other}
 use Rattle.drive_core.proofs.Keyed.{find-dropped_own, find-dropped_other}
-use Rattle.drive_core.proofs.Elsewhere.{staged-alike, all_staged}
+use Rattle.drive_core.proofs.Elsewhere.{IsAlike, held-alike, staged-alike, all_staged}
+use Rattle.drive_core.proofs.Apart.{held_out, apart_none}
 use Rattle.drive_core.proofs.Halves.{end_lawful, over_owes}
+use Rattle.drive_core.proofs.Windows.{windows_work}
 use Rattle.drive_core.proofs.Parts.{cached_got, quiet_got}
 use Rattle.drive_core.proofs.Fitting.{known-quiet}
 use Rattle.drive_core.proofs.Closing.{has_ops}
@@ -188,7 +190,7 @@ first_read v r settings left window same clean = record {
   retry = sym (ap (λ (x : Settings). x.retry) same);
   failed = λ k x below here. absurd (omega arith);
   unfound = ap last_found window;
-  fresh = ap (λ (xs : List Op). eqb (length xs) 0) window;
+  tried = ap length window;
   clean = clean;
 }
 
@@ -222,6 +224,9 @@ module _ (s : Scene) (d e : Server) (c : ℕ) (is : IsStartOf s d e c) where
       subst (λ (k : Known). KnowsHistory t k) (sym is.known)
       (known-quiet s t d.known map_is settings (waiting ∙ none_taken s.hist.waiting (initiator_of s.hist c) ((begun s.hist (Work c)).duties c) is.fits.known.unwarned served) corrupt scan is.fits.known)
 
+  windows : (entries : List Entry) (q : ℕ) → length ((scene_after s (beat (Work c) entries [])).windows q) ≤ 50
+  windows entries = windows_work s c entries [] (omega (arith, ap length is.may.waiting.window)) is.fits.windows refl
+
   -- it ends at once
   pub starts_and_ends : (reply : Reply) (entries : List Entry) (told : Option told_end.Ended) → plan_of_start s c ≡ Ending reply
       → e.set ≡ without (with_started d.set c) c → Drops d.commands.items e.commands.items c → entries ≡ Started c ∷ Ended c reply ∷ []
@@ -237,6 +242,15 @@ module _ (s : Scene) (d e : Server) (c : ℕ) (is : IsStartOf s d e c) where
       told_is ∙ (ap (λ (ms : List Member). ended_of_member (member_of (with_started ms c) c) reply) is.fits.tasks.set
       ∙ (ap (λ (o : Option Member). ended_of_member o reply) (find-started_own c s.hist.set is.may.m is.may.is_in)
       ∙ sym (ap (λ (o : Option Member). ended_of_member o reply) is.may.is_in))) in
+      let alike : (q : ℕ) → q ≢ c → IsAlike s t q = λ q other. record {
+        map = refl;
+        member = find-dropped_other (λ (m : Member). m.task.c) c q (with_started s.hist.set c) other ∙ find-started_other c q s.hist.set other;
+        duty = put_at-other c q _ h.duties other ∙ (put_at-other c q _ (begun s.hist (Work c)).duties other ∙ put_at-other c q _ s.hist.duties other);
+        window = put_at-other c q _ s.windows other;
+        settings = put_at-other c q s.hist.settings s.settings other;
+        recovered = refl;
+        dirty = λ n holds. refl;
+      } in
       let M : List Entry → Option told_end.Ended → Type 0 = λ es o. Moves (Work c) s d e es o in
       let moves : M (Started c ∷ Ended c reply ∷ []) (ended_of_member (member_of s.hist.set c) reply) = record {
         ops = [];
@@ -248,6 +262,8 @@ module _ (s : Scene) (d e : Server) (c : ℕ) (is : IsStartOf s d e c) where
           shown = (tt, (subst (λ (o : Option Plan). IsEndShown s (beat (Work c) (Started c ∷ Ended c reply ∷ []) []) c o reply) (sym owes) tt, tt));
           step = (refl, refl);
           one_block = (lba 0, refl);
+          own = and_both _ _ (eq-eqb c c refl) (and_both _ _ (eq-eqb c c refl) refl);
+          window = windows (Started c ∷ Ended c reply ∷ []);
           held = λ q below about. absurd (cc);
           stands = still_stands;
         };
@@ -262,17 +278,10 @@ module _ (s : Scene) (d e : Server) (c : ℕ) (is : IsStartOf s d e c) where
           };
           staged = all_staged t e.commands.items c
               (subst (λ (o : Option Accepted). IsStaged (view t c) o) (sym drops.own) gone)
-              (λ q other. staged-alike s t q (accepted_of d.commands.items q) (accepted_of e.commands.items q)
-              (record {
-                map = refl;
-                member = find-dropped_other (λ (m : Member). m.task.c) c q (with_started s.hist.set c) other ∙ find-started_other c q s.hist.set other;
-                duty = put_at-other c q _ h.duties other ∙ (put_at-other c q _ (begun s.hist (Work c)).duties other ∙ put_at-other c q _ s.hist.duties other);
-                window = put_at-other c q _ s.windows other;
-                settings = put_at-other c q s.hist.settings s.settings other;
-                recovered = refl;
-                dirty = λ n holds. refl;
-              })
+              (λ q other. staged-alike s t q (accepted_of d.commands.items q) (accepted_of e.commands.items q) (alike q other)
               (drops.others q other) (is.fits.staged q));
+          apart = apart_none s t c is.fits.apart (λ q other. held-alike s t q (alike q other)) (held_out t c gone);
+          windows = windows (Started c ∷ Ended c reply ∷ []);
           stands = still_stands;
         };
         counted = omega (arith, is.arrived);
@@ -302,6 +311,7 @@ module _ (s : Scene) (d e : Server) (c : ℕ) (is : IsStartOf s d e c) where
         started = refl;
         owes = start-duty s c ∙ ap Some plan_is;
         settings = settings;
+        retry = is.fits.known.retry;
         recovered = is.may.waiting.recovered;
         at_block = at_block (view t c) window settings (ap (λ (o : Option ℕ). option_map_or (λ b. is_dirty (t.hist.blocks b)) o false) held);
         range = range;
@@ -314,6 +324,15 @@ module _ (s : Scene) (d e : Server) (c : ℕ) (is : IsStartOf s d e c) where
         is_in = find-started_own c s.hist.set is.may.m is.may.is_in;
         under_way = subst (λ (x : Course). IsWorking (view t c) (record is.may.m { started = true }) x) (sym w_is) working;
       } in
+      let alike : (q : ℕ) → q ≢ c → IsAlike s t q = λ q other. record {
+        map = refl;
+        member = find-started_other c q s.hist.set other;
+        duty = put_at-other c q _ (begun s.hist (Work c)).duties other ∙ put_at-other c q _ s.hist.duties other;
+        window = put_at-other c q _ s.windows other;
+        settings = put_at-other c q s.hist.settings s.settings other;
+        recovered = refl;
+        dirty = λ n holds. refl;
+      } in
       let M : List Entry → Option told_end.Ended → Type 0 = λ es o. Moves (Work c) s d e es o in
       let moves : M (Started c ∷ []) None = record {
         ops = [];
@@ -324,6 +343,8 @@ module _ (s : Scene) (d e : Server) (c : ℕ) (is : IsStartOf s d e c) where
           shown = (tt, tt);
           step = (refl, refl);
           one_block = (lba 0, refl);
+          own = and_both _ _ (eq-eqb c c refl) refl;
+          window = windows (Started c ∷ []);
           held = λ q below about. absurd (cc);
           stands = still_stands;
         };
@@ -338,17 +359,10 @@ module _ (s : Scene) (d e : Server) (c : ℕ) (is : IsStartOf s d e c) where
           };
           staged = all_staged t e.commands.items c
               (subst (λ (o : Option Accepted). IsStaged (view t c) o) (sym replaces.own) own)
-              (λ q other. staged-alike s t q (accepted_of d.commands.items q) (accepted_of e.commands.items q)
-              (record {
-                map = refl;
-                member = find-started_other c q s.hist.set other;
-                duty = put_at-other c q _ (begun s.hist (Work c)).duties other ∙ put_at-other c q _ s.hist.duties other;
-                window = put_at-other c q _ s.windows other;
-                settings = put_at-other c q s.hist.settings s.settings other;
-                recovered = refl;
-                dirty = λ n holds. refl;
-              })
+              (λ q other. staged-alike s t q (accepted_of d.commands.items q) (accepted_of e.commands.items q) (alike q other)
               (replaces.others q other) (is.fits.staged q));
+          apart = apart_none s t c is.fits.apart (λ q other. held-alike s t q (alike q other)) held;
+          windows = windows (Started c ∷ []);
           stands = still_stands;
         };
         counted = omega (arith, is.arrived);

@@ -86,6 +86,8 @@ damages s d e x fits store_is set_is commands_is arrived_is known_is keeps prese
         shown = tt;
         step = refl;
         one_block = (lba 0, refl);
+        own = tt;
+        window = fits.windows;
         held = λ q below about. tt;
         stands = stands;
       };
@@ -107,6 +109,8 @@ damages s d e x fits store_is set_is commands_is arrived_is known_is keeps prese
         staged = λ q. staged-alike s t q (accepted_of d.commands.items q) (accepted_of e.commands.items q)
             (record { map = refl; member = refl; duty = refl; window = refl; settings = refl; recovered = refl; dirty = λ n holds. refl })
             (ap (λ (xs : List Accepted). accepted_of xs q) commands_is) (fits.staged q);
+        apart = fits.apart;
+        windows = fits.windows;
         stands = stands;
       };
       counted = omega (arith, arrived_is);

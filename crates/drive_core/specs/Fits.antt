@@ -1,5 +1,5 @@
 -- The parts of a drive are what its turns have come to.
-use Rattle.std.specs.Prelude.{◌≡◌, ℕ, ◌^◌, ◌≤◌, ◌<◌, false, List, map, Some, None, All}
+use Rattle.std.specs.Prelude.{◌≡◌, ℕ, ◌^◌, ◌≤◌, ◌<◌, false, List, length, map, Some, None, All}
 use Rattle.std.specs.Map.{keys_of}
 use Rattle.std.specs.Option.{option_map}
 use Rattle.disk_base.specs.declared.address.Lba.{Lba}
@@ -20,8 +20,9 @@ use Rattle.history_replay.specs.declared.known.Known.{Known}
 use Rattle.history_replay.specs.Known.{scan_of}
 use Rattle.drive_core.specs.declared.server.Server.{Server}
 use Rattle.drive_core.specs.Scene.{Scene, capacity}
+use Rattle.drive_core.specs.Holds.{IsApart}
 use Rattle.drive_core.specs.Evidence.{IsKnown}
-use Rattle.drive_core.specs.GoodTurn.{IsStood}
+use Rattle.drive_core.specs.GoodTurn.{IsStood, window_at_most}
 use Rattle.drive_core.specs.Accepting.{accepted_of}
 use Rattle.drive_core.specs.Commands.{view, IsStaged}
 
@@ -79,4 +80,6 @@ pub record Fits (s : Scene) (d : Server) : Type 0 where
   pub known : KnowsHistory s d.known
   pub tasks : HasTasks s d
   pub staged : (c : ℕ) → IsStaged (view s c) (accepted_of d.commands.items c)
+  pub apart : IsApart s
+  pub windows : (c : ℕ) → length (s.windows c) ≤ window_at_most
   pub stands : IsStood s.map s.ops s.hist.blocks

@@ -1,5 +1,5 @@
 -- What is said of one turn.
-use Rattle.std.specs.Prelude.{◌≡◌, ℕ, ◌<◌, ◌==◌, ◌||◌, not, Bool, true, false, IsTrue, List, [], ◌∷◌, ◌++◌, length, Option, Some, None}
+use Rattle.std.specs.Prelude.{◌≡◌, ℕ, ◌<◌, ◌≤◌, ◌==◌, ◌||◌, not, Bool, true, false, IsTrue, List, [], ◌∷◌, ◌++◌, length, Option, Some, None}
 use Rattle.std.specs.List.{list_any, list_all}
 use Rattle.std.specs.Option.{option_map_or}
 use Rattle.disk_base.specs.Along.{Along}
@@ -15,6 +15,8 @@ use Rattle.geometry_map.specs.DefectMap.{DefectMap, place_of}
 use Rattle.sector_store.specs.Stored.{Stands}
 use Rattle.block_machine.specs.declared.entry.Entry.{Entry}
 use Rattle.block_machine.specs.declared.entry.Entry.TheVariants.{Get, Put, Harden, GiveUp}
+use Rattle.block_machine.specs.declared.entry.Entry.TheVariants as entry
+use Rattle.block_machine.specs.declared.entry.Who.TheVariants as who
 use Rattle.block_machine.specs.declared.turn.Label.{Label}
 use Rattle.block_machine.specs.declared.turn.Label.TheVariants.{Arrive, Work}
 use Rattle.block_machine.specs.declared.turn.Label.TheVariants as label
@@ -94,6 +96,27 @@ IsFree s other b = Unit {0}
 abbrev pub is_about : Scene → Beat → Lba → Bool
 is_about s t b = list_any (is_on b) t.entries || list_any (is_at_sector (place_of s.map b)) t.ops
 
+-- an entry is a command's: it starts, gets, puts or hardens, passes over blocks, gives data, ends or changes mode values
+abbrev pub is_entry_of : ℕ → Entry → Bool
+is_entry_of c (entry.Started d) = d == c
+is_entry_of c (Get d b v) = d == c
+is_entry_of c (Put d b v) = d == c
+is_entry_of c (Harden (who.Command d) b) = d == c
+is_entry_of c (entry.Passed d from to) = d == c
+is_entry_of c (entry.Page d bytes) = d == c
+is_entry_of c (entry.Ended d reply) = d == c
+is_entry_of c (entry.Mode settings) = true
+is_entry_of c other = false
+
+-- a turn of work has entries of its command alone
+abbrev pub AreOwn : Label → List Entry → Type 0
+AreOwn (Work c) entries = IsTrue (list_all (is_entry_of c) entries)
+AreOwn label entries = Unit {0}
+
+-- two operations for each of the 25 stages that the greatest retry count has
+abbrev pub window_at_most : ℕ
+window_at_most = 50
+
 pub record GoodTurn (s : Scene) (t : Beat) : Type 0 where
   -- it may come, as far as commands go
   pub tasks : IsTrue (entries_lawful (capacity s) t.label (begun s.hist t.label) t.entries)
@@ -102,6 +125,9 @@ pub record GoodTurn (s : Scene) (t : Beat) : Type 0 where
   pub shown : Along (entry_after (capacity s) t.label) (Shows s t) (begun s.hist t.label) t.entries
   pub step : IsStep t.label t.entries t.ops
   pub one_block : IsOnOneBlock t.entries
+  pub own : AreOwn t.label t.entries
+  -- no window is longer than the tries of all stages
+  pub window : (c : ℕ) → length ((scene_after s t).windows c) ≤ window_at_most
   -- nobody but the holder is about a block
   pub held : (b : Lba) → b.0 < capacity s → is_about s t b ≡ true → IsFree s t.label b
   -- what is stored after it

@@ -2,6 +2,7 @@
 use Rattle.std.specs.Prelude.{◌≡◌, ℕ, ◌+◌, ◌-◌, ◌==◌, Bool, true, false, List, [], ◌∷◌, ◌++◌, length, Option, Some, None}
 use Rattle.std.specs.List.{list_any}
 use Rattle.std.specs.Option.{option_map, option_map_or, option_and_then}
+use Rattle.platter_model.specs.declared.op.Op.{Op}
 use Rattle.block_machine.specs.declared.entry.Entry.{Entry}
 use Rattle.block_machine.specs.declared.entry.Entry.TheVariants.{Arrived, Scanned}
 use Rattle.block_machine.specs.declared.turn.Label.{Label}
@@ -67,6 +68,9 @@ pub record AddsTurn (old : Run) (e : Event) (given : TurnAnswer) (new : Run) : T
   pub turns : new.turns ≡ old.turns ++ turn ∷ []
   pub label : label_of (scene_of old) e ≡ Some turn.label
   pub arrival : BeginsWith (arrives_as (scene_of old).hist.arrived e) turn.entries
+  -- what the platter did
+  pub ops : List Op
+  pub added : new.ops ≡ old.ops ++ ops
   pub size : new.size ≡ old.size
   pub primary : new.primary ≡ old.primary
   pub coming : new.coming ≡ coming_after old.coming e

@@ -1,10 +1,11 @@
 //! The drive and its calls.
-ghost use Rattle.std.specs.Prelude.{◌≡◌, ◌↔◌, [], IsTrue, IfOk, OnErr, MatchOption, MatchResult};
+ghost use Rattle.std.specs.Prelude.{◌≡◌, ◌↔◌, [], false, IsTrue, IfOk, OnErr, MatchOption, MatchResult};
+ghost use Rattle.platter_model.specs.TrueLog.{is_off};
 ghost use Rattle.geometry_map.specs.DefectMap.{IsPrimaryList};
 ghost use Rattle.drive_core.specs.Run.{IsGoodRun, run_at_start, scene_of};
 ghost use Rattle.drive_core.specs.Able.{refusal, needs_power, pick_of};
 ghost use Rattle.drive_core.specs.Turning.{AddsTurn, coming_after};
-ghost use Rattle.drive_core.specs.Progress.{IsApart, SomebodyIsAble};
+ghost use Rattle.drive_core.specs.Progress.{SomebodyIsAble};
 ghost use Rattle.drive_core.specs.Served.{IsServed};
 ghost use Rattle.drive_core.specs.Starting.{KnowsStart};
 
@@ -74,9 +75,10 @@ impl Drive {
         })
     }
 
-    /// Holds of every drive: its run is good.
+    /// Holds of every drive: its run is good, and the power is on.
     pub fn is_good(&self)
-        ensures { IsGoodRun self.now }
+        ensures good { IsGoodRun self.now }
+        ensures powered { is_off self.now.ops ≡ false }
     {
         let platter = self.server.store.platter();
         platter.has_a_true_log();
@@ -143,9 +145,9 @@ impl Drive {
         able::picked(&self.server, waiting, x)
     }
 
-    /// Holds of every drive on which no two commands hold one block: while commands are in, work on one of them may come.
+    /// Holds of every drive: while commands are in, work on one of them may come.
     pub fn somebody_is_able(&self)
-        ensures { IsApart (scene_of self.now) → SomebodyIsAble (scene_of self.now) }
+        ensures { SomebodyIsAble (scene_of self.now) }
     {
         some_command_may_run();
         let _ = self.server.set.members();

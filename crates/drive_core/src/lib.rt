@@ -4,6 +4,8 @@
 #![tactic(auto)]
 
 mod able;
+#[cfg(test)]
+mod able_tests;
 mod accepted;
 mod answer;
 mod arriving;
@@ -16,10 +18,14 @@ mod server;
 mod standing;
 mod starting;
 mod storing;
+#[cfg(test)]
+mod sync_tests;
 mod syncing;
 mod taking;
 mod turning;
 mod worldly;
+#[cfg(test)]
+mod write_tests;
 
 pub use answer::{Ended, Pick, TurnAnswer, Waiting};
 pub use drive::Drive;

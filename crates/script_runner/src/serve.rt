@@ -1,20 +1,16 @@
 //! The top call: one script in, one report out.
 
-ghost use Rattle.std.specs.Prelude.{◌≡◌, ◌↔◌, ℕ, Some, None, IfOk};
+ghost use Rattle.std.specs.Prelude.{◌≡◌, ◌↔◌, ℕ, Some, None};
 ghost use Rattle.outside.specs.Faults.{Rises};
-ghost use Rattle.script_runner.specs.Script.{script_of};
 ghost use Rattle.script_runner.specs.Words.{texts_of, first_bad_word};
-ghost use Rattle.script_runner.specs.Outcome.{SourceOf, SinkOf, IsQuiet, IsWriteFault, IsServedIfMemory, HasScript};
-ghost use Rattle.script_runner.specs.Ran.{Ran};
+ghost use Rattle.script_runner.specs.Outcome.{SourceOf, SinkOf, IsQuiet, IsWriteFault, IsServedIfMemory, HasScript, Ran};
 
+use crate::carrying::run_script;
 use crate::outcome::Outcome;
-use crate::printing::report;
-use crate::reading::read_script;
-use crate::run::{Run, carry_out};
-use crate::script::ScriptFault;
 use crate::words::first_bad_word;
-use disk_base::Bytes;
-use outside::{Printed, Reading, Sink, Source, offer, read_to_end};
+use outside::{Printed, Reading, Sink, Source, read_to_end};
+use report_text::{Form, Run, print_run};
+use script_text::{ScriptFault, read_script};
 use std::alloc::Global;
 
 /// The most bytes that a script has.
@@ -52,23 +48,26 @@ pub fn serve_alone<S: Source, K: Sink>(
         Reading::Failed => return Outcome::ReadFault,
         Reading::NoMemory => return Outcome::NoMemory,
     };
-    let (run, text) = match run_and_report(alloc, bytes.as_slice()) {
-        Ok(both) => both,
+    let run = match run_bytes(alloc, bytes.as_slice()) {
+        Ok(run) => run,
         Err(ScriptFault::NoMemory) => return Outcome::NoMemory,
         Err(ScriptFault::Refused { line, why }) => return Outcome::Refused { line, why },
     };
-    match offer(sink, text.as_slice()) {
+    match print_run(&run, Form::Whole, sink) {
         Printed::All => Outcome::Served(run),
         Printed::Fault => Outcome::WriteFault(run),
     }
 }
 
-// The run of a script, and its report.
-fn run_and_report(alloc: Global, bytes: &[u8]) -> Result<(Run, Bytes), ScriptFault>
+// The run of a script.
+fn run_bytes(alloc: Global, bytes: &[u8]) -> Result<Run, ScriptFault>
     ensures { Ran result bytes.now }
 {
-    let script = read_script(alloc, bytes)?;
-    let turns = carry_out(alloc, script.lines.as_slice())?;
-    let text = report(alloc, turns.as_slice())?;
-    Ok((Run { script, turns }, text))
+    match read_script(alloc, bytes) {
+        Ok(script) => match run_script(alloc, script) {
+            Ok(run) => Ok(run),
+            Err(_) => Err(ScriptFault::NoMemory),
+        },
+        Err(fault) => Err(fault),
+    }
 }

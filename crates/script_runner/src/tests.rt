@@ -1,5 +1,4 @@
 use super::*;
-use crate::script::Why;
 use disk_base::{Bytes, Calls};
 use outside::{MemorySink, MemorySource, Printed};
 use std::alloc::Global;
@@ -12,16 +11,69 @@ const READ: &[u8] = b"cmd 1 8 S 28000000000000000100";
 
 const READ_REPORT: &[u8] = b"1 arrive 1 > in 1 1 8 S 28000000000000000100 -
 2 work 1 > start 1
-3 work 1 > get 1 0 *00 > end 1 00
+3 work 1 < fetch 16 0 0 < tried 16 0 found > get 1 0 *00 > end 1 00
 turns 3 commands 1 good 1 check 0 full 0 aborted 0 cut 0 strays 0
 ";
 
-const LAST: &[u8] = b"cmd 1 65535 S 28000000038f00000100\n";
+// Two rereads fail, and the third try finds the data; the second read finds them in the cache.
+const SOFT: &[u8] = b"# two rereads
+damage 16 0 9478 soft 2 drop
+cmd 1 1 S 28000000000000000100
+go
+cmd 1 2 S 28000000000000000100
+";
 
-const LAST_REPORT: &[u8] = b"1 arrive 1 > in 1 1 65535 S 28000000038F00000100 -
-2 work 1 > start 1
-3 work 1 > get 1 911 *00 > end 1 00
-turns 3 commands 1 good 1 check 0 full 0 aborted 0 cut 0 strays 0
+const SOFT_REPORT: &[u8] = b"1 damage 16 0 9478 soft 2 drop < damaged 16
+2 arrive 1 > in 1 1 1 S 28000000000000000100 -
+3 work 1 > start 1
+4 work 1 < fetch 16 0 0 < tried 16 0 none
+5 work 1 < fetch 16 1 0 < tried 16 1 none
+6 work 1 < fetch 16 2 0 < tried 16 2 found > get 1 0 *00 > end 1 00
+7 arrive 1 > in 2 1 2 S 28000000000000000100 -
+8 work 2 > start 2
+9 work 2 > get 2 0 *00 > end 2 00
+turns 9 commands 2 good 2 check 0 full 0 aborted 0 cut 0 strays 0
+";
+
+// All ten stages of retry count 5 fail: UNRECOVERED READ ERROR at the block.
+const HARD: &[u8] = b"damage 16 0 9478 hard drop
+cmd 1 1 S 28000000000000000100
+go
+";
+
+const HARD_REPORT: &[u8] = b"1 damage 16 0 9478 hard drop < damaged 16
+2 arrive 1 > in 1 1 1 S 28000000000000000100 -
+3 work 1 > start 1
+4 work 1 < fetch 16 0 0 < tried 16 0 none
+5 work 1 < fetch 16 1 0 < tried 16 1 none
+6 work 1 < fetch 16 2 0 < tried 16 2 none
+7 work 1 < fetch 16 3 0 < tried 16 3 none
+8 work 1 < fetch 16 4 0 < tried 16 4 none
+9 work 1 < fetch 16 5 0 < tried 16 5 none
+10 work 1 < fetch 16 5 1 < tried 16 6 none
+11 work 1 < fetch 16 5 -1 < tried 16 7 none
+12 work 1 < fetch 16 5 0 < tried 16 8 none
+13 work 1 < fetch 16 5 0 < tried 16 9 none > get 1 0 bad > end 1 02 F00003000000000A00000000110000000000
+turns 13 commands 1 good 0 check 1 full 0 aborted 0 cut 0 strays 0
+";
+
+// A write, its sync, and a read of the block.
+const SYNC: &[u8] = b"cmd 1 1 S 2A000000000500000100 *11
+cmd 1 2 S 35000000000500000100
+cmd 1 3 S 28000000000500000100
+go
+";
+
+const SYNC_REPORT: &[u8] = b"1 arrive 1 > in 1 1 1 S 2A000000000500000100 *11
+2 arrive 1 > in 2 1 2 S 35000000000500000100 -
+3 arrive 1 > in 3 1 3 S 28000000000500000100 -
+4 work 1 > start 1
+5 work 1 > put 1 5 *11 > end 1 00
+6 work 2 > start 2
+7 work 2 < wrote 21 > hard 2 5 > end 2 00
+8 work 3 > start 3
+9 work 3 > get 3 5 *11 > end 3 00
+turns 9 commands 3 good 3 check 0 full 0 aborted 0 cut 0 strays 0
 ";
 
 fn bytes(alloc: Global, text: &[u8]) -> Result<Bytes, Fail> {
@@ -61,9 +113,11 @@ fn reports(rt: HostRuntime) -> Result<(), Fail> {
     for (script, report) in [
         (b"".as_slice(), EMPTY),
         (READ, READ_REPORT),
-        (LAST, LAST_REPORT),
+        (SOFT, SOFT_REPORT),
+        (HARD, HARD_REPORT),
+        (SYNC, SYNC_REPORT),
     ] {
-        let (outcome, got) = served(rt.alloc(), script, &[], 1000, &[])?;
+        let (outcome, got) = served(rt.alloc(), script, &[], 2000, &[])?;
         assert_eq!(rt; outcome.status(), 0);
         assert_eq!(rt; got.as_slice(), report);
         assert_eq!(rt; said(rt.alloc(), &outcome)?.as_slice(), b"".as_slice());
@@ -73,32 +127,15 @@ fn reports(rt: HostRuntime) -> Result<(), Fail> {
 
 #[test]
 fn refusals(rt: HostRuntime) -> Result<(), Fail> {
-    let line_1 = b"line 1: later\n".as_slice();
-    let line_2 = b"line 2: later\n".as_slice();
     for (script, line) in [
-        (b"\n".as_slice(), line_1),
-        (b"cmd 1 8 S 28000000039000000100".as_slice(), line_1),
-        (b"cmd 2 8 S 28000000000000000100".as_slice(), line_1),
-        (b"cmd 1 08 S 28000000000000000100".as_slice(), line_1),
-        (b"cmd 1 65536 S 28000000000000000100".as_slice(), line_1),
-        (b"cmd 1  S 28000000000000000100".as_slice(), line_1),
-        (b"cmd 1 8 O 28000000000000000100".as_slice(), line_1),
-        (b"cmd 1 8 S 2800000000000000010g".as_slice(), line_1),
-        (b"cmd 1 8 S 280000000000000001".as_slice(), line_1),
-        (b"cmd 1 8 S 28000000000000000100 ".as_slice(), line_1),
-        (b"cmd 1 8 S 28000000000000000100\n\n".as_slice(), line_2),
-        (b"cmd 1 8 S 28000000000000000100\ngo\n".as_slice(), line_2),
+        (b"cmd 1 1 S 0000".as_slice(), b"line 1: cdb\n".as_slice()),
+        (b"\n\ncmd 1 1\n", b"line 3: shape\n"),
+        (b"cmd 9 1 S 28000000000000000100", b"line 1: number\n"),
+        (b"cmd 2 1 S 28000000000000000100", b"line 1: later\n"),
+        (b"scan 1\n", b"line 1: later\n"),
+        (b"disk 1 1 1 0\n", b"line 1: disk\n"),
     ] {
         let (outcome, got) = served(rt.alloc(), script, &[], 1000, &[])?;
-        assert!(rt;
-            matches!(
-                &outcome,
-                Outcome::Refused {
-                    why: Why::Later,
-                    ..
-                }
-            )
-        );
         assert_eq!(rt; outcome.status(), 2);
         assert_eq!(rt; got.as_slice(), b"".as_slice());
         assert_eq!(rt; said(rt.alloc(), &outcome)?.as_slice(), line);
@@ -190,7 +227,7 @@ fn limits(rt: HostRuntime) -> Result<(), Fail> {
     let at_the_limit = served_zeros(rt.alloc(), 4_194_304)?;
     assert_eq!(rt;
         said(rt.alloc(), &at_the_limit)?.as_slice(),
-        b"line 1: later\n".as_slice()
+        b"line 1: bytes\n".as_slice()
     );
     let past_it = served_zeros(rt.alloc(), 4_194_305)?;
     assert_eq!(rt; past_it.status(), 2);
