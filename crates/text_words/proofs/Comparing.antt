@@ -1,9 +1,20 @@
 -- A text compared with the front of another, piece by piece.
 use Rattle.std.proofs.Common.{◌≡◌, ℕ, ◌==◌, Bool, true, false, List, [], ◌∷◌, ◌++◌, length, sym, ap, ◌∙◌, append_assoc, append-nil, arith}
-use Rattle.std.specs.Prelude.{IsTrue, ◌↔◌}
+use Rattle.std.specs.Prelude.{IsTrue, ◌↔◌, Option, Some, None, MatchOption, IfSome, IfNone}
+use Rattle.std.specs.Borrow.{Bor}
 use Rattle.std.proofs.lemmas.Bool.{eqb-true}
 use Rattle.std.proofs.lemmas.List.{append_cancel_left}
 use Rattle.text_words.specs.Written.{IsCompared}
+
+-- what holds of a borrowed text, where there is one
+pub some_of : (none : Type 0) (some : Bor (List ℕ) → Type 0) (r : Option (Bor (List ℕ))) → MatchOption r none some → IfSome r some
+some_of none some None m = tt
+some_of none some (Some text) m = m
+
+-- what holds where there is none
+pub none_of : (none : Type 0) (some : Bor (List ℕ) → Type 0) (r : Option (Bor (List ℕ))) → MatchOption r none some → IfNone r none
+none_of none some None m = m
+none_of none some (Some text) m = tt
 
 -- the next piece is the front of the rest
 pub compared_more : (whole text rest piece left : List ℕ) (is_front : Bool) → IsCompared whole text rest is_front → rest ≡ piece ++ left → is_front ≡ true → IsCompared whole (text ++ piece) left is_front

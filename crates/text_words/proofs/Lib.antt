@@ -6,3 +6,6 @@ pub mod Chunks
 pub mod Numerals
 pub mod Words
 mod Rows
+pub mod Decoding
+pub mod Filled
+pub mod PairTable

@@ -1,4 +1,4 @@
-ghost use Rattle.std.specs.Prelude.{◌≡◌, ◌↔◌, IsTrue, [], List, ℕ};
+ghost use Rattle.std.specs.Prelude.{◌≡◌, ◌≢◌, ◌++◌, ◌↔◌, IsTrue, IfSome, IfNone, [], List, ℕ};
 ghost use Rattle.text_words.specs.Written.{IsCompared};
 
 use crate::Out;
@@ -34,10 +34,40 @@ impl<'a> Out for Compare<'a> {
 
     fn put(&mut self, piece: &[u8]) {
         if self.is_front {
-            match self.rest.strip_prefix(piece) {
+            match behind_front(piece, self.rest) {
                 Some(rest) => self.rest = rest,
                 None => self.is_front = false,
             }
         }
     }
+}
+
+// Pieces below this are compared byte by byte.
+const SHORT: usize = 16;
+
+// What stands behind a piece at the front of a text, where it stands there.
+fn behind_front<'a>(piece: &[u8], text: &'a [u8]) -> Option<&'a [u8]>
+    ensures some { IfSome result (λ rest. text.now ≡ piece.now ++ rest.now) }
+    ensures none { IfNone result ((rest : List ℕ) → text.now ≢ piece.now ++ rest) }
+{
+    if piece.len() < SHORT {
+        behind_short(piece, text)
+    } else {
+        text.strip_prefix(piece)
+    }
+}
+
+fn behind_short<'a>(piece: &[u8], text: &'a [u8]) -> Option<&'a [u8]>
+    ensures some { IfSome result (λ rest. text.now ≡ piece.now ++ rest.now) }
+    ensures none { IfNone result ((rest : List ℕ) → text.now ≢ piece.now ++ rest) }
+{
+    if text.len() < piece.len() {
+        return None;
+    }
+    for i in 0..piece.len() {
+        if text[i] != piece[i] {
+            return None;
+        }
+    }
+    Some(&text[piece.len()..])
 }

@@ -3,6 +3,7 @@ ghost use Rattle.std.specs.Result.{result_ok};
 ghost use Rattle.hex.specs.Hex.{decode_sized};
 ghost use Rattle.text_words.specs.Data.{mark_of, data_of, value_of};
 
+use crate::digits::decode;
 use crate::{DigitsFault, read_byte, read_hex};
 use disk_base::{BLOCK_LENGTH, DataOut, Value};
 use std::alloc::Global;
@@ -71,9 +72,13 @@ pub fn read_value(word: &[u8]) -> Option<Value>
 fn block_of(digits: &[u8]) -> Option<Value>
     ensures { result ≡ option_map Value.Data (result_ok (decode_sized digits.now 512)) }
 {
+    if digits.len() != 2 * BLOCK_LENGTH {
+        return None;
+    }
     let mut block = [0; BLOCK_LENGTH];
-    match hex::decode_to_slice(digits, &mut block) {
-        Ok(()) => Some(Value::Data(block)),
-        Err(_) => None,
+    if decode(digits, &mut block) {
+        Some(Value::Data(block))
+    } else {
+        None
     }
 }

@@ -27,6 +27,8 @@ pub use laws::{
 pub use line::{first_part, read_words};
 pub use number::{Numeral, read_number, read_signed};
 pub use out::Out;
-pub use printing::{put_byte, put_hex, put_number, put_sent, put_signed, put_value, put_word};
+pub use printing::{
+    put_block, put_byte, put_hex, put_number, put_sent, put_signed, put_value, put_word,
+};
 pub use to_memory::ToMemory;
 pub use to_sink::ToSink;

@@ -2,6 +2,7 @@ ghost use Rattle.std.specs.Prelude.{◌≡◌, ◌==◌, position, ◌≤◌, �
 ghost use Rattle.text_words.specs.Line.{parts_at, words_of, texts_of};
 
 use arrayvec::ArrayVec;
+use memchr::memchr;
 
 /// The first of the parts that a byte parts a text into, and what stands behind that byte, where it is there.
 pub fn first_part(byte: u8, text: &[u8]) -> (&[u8], Option<&[u8]>)
@@ -13,10 +14,22 @@ pub fn first_part(byte: u8, text: &[u8]) -> (&[u8], Option<&[u8]>)
     }
 }
 
+// So many bytes are looked at one by one: most words are short, and a search by groups of bytes takes longer to set up.
+const NEAR: usize = 16;
+
 fn place_of(byte: u8, text: &[u8]) -> Option<usize>
     ensures { result ≡ position (λ b. b == byte) text.now }
 {
-    text.iter().position(|b| *b == byte)
+    let near = NEAR.min(text.len());
+    for i in 0..near {
+        if text[i] == byte {
+            return Some(i);
+        }
+    }
+    match memchr(byte, &text[near..]) {
+        Some(at) => Some(near + at),
+        None => None,
+    }
 }
 
 /// The words of a line, where there are no more than `MOST`.

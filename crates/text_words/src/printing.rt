@@ -1,4 +1,4 @@
-ghost use Rattle.std.specs.Prelude.{◌≡◌, ◌==◌, [], ◌∷◌, ◌++◌, decimal};
+ghost use Rattle.std.specs.Prelude.{◌≡◌, ◌==◌, [], ◌∷◌, ◌++◌, codes, decimal};
 ghost use Rattle.std.specs.Fmt.{signed_decimal};
 ghost use Rattle.std.specs.List.{list_all};
 ghost use Rattle.text_words.specs.Line.{spaced};
@@ -6,8 +6,9 @@ ghost use Rattle.text_words.specs.Digits.{hex_of, byte_word};
 ghost use Rattle.text_words.specs.Data.{sent_word, value_word, block_word};
 ghost use Rattle.text_words.specs.Written.{Writes};
 
+use crate::digits::pair_of;
 use crate::{Out, put_digits};
-use disk_base::{Block, DataOut, Value};
+use disk_base::{BLOCK_LENGTH, Block, DataOut, Value};
 use itoa::Buffer;
 
 /// A blank and a word.
@@ -44,7 +45,7 @@ pub fn put_hex<O: Out>(out: &mut O, bytes: &[u8])
 pub fn put_byte<O: Out>(out: &mut O, byte: u8)
     ensures { Writes O.written out.old out.new (λ text. spaced text (byte_word byte ∷ [])) }
 {
-    put_hex(out, &[byte]);
+    put_word(out, &pair_of(byte));
 }
 
 /// A blank and the word of data sent with a command: `-` for none, `*` and a byte for a fill, `=` and all bytes.
@@ -53,8 +54,8 @@ pub fn put_sent<O: Out>(out: &mut O, sent: &DataOut)
 {
     match sent {
         DataOut::Nothing => put_word(out, b"-"),
-        DataOut::Fill(byte) => put_behind(out, b" *", &[*byte]),
-        DataOut::Given(bytes) => put_behind(out, b" =", bytes.as_slice()),
+        DataOut::Fill(byte) => put_fill(out, *byte),
+        DataOut::Given(bytes) => put_given(out, bytes.as_slice()),
     }
 }
 
@@ -68,26 +69,28 @@ pub fn put_value<O: Out>(out: &mut O, value: &Value)
     }
 }
 
-fn put_block<O: Out>(out: &mut O, block: &Block)
+/// A blank and the word of a block's data: `*` and a byte where all are that byte, else all bytes.
+pub fn put_block<O: Out>(out: &mut O, block: &Block)
     ensures { Writes O.written out.old out.new (λ text. spaced text (block_word block.now ∷ [])) }
 {
     let first = block[0];
-    if is_all(first, block) {
-        put_behind(out, b" *", &[first]);
+    if *block == [first; BLOCK_LENGTH] {
+        put_fill(out, first);
     } else {
         put_hex(out, block);
     }
 }
 
-fn put_behind<O: Out>(out: &mut O, mark: &[u8], bytes: &[u8])
-    ensures { Writes O.written out.old out.new (λ text. text ++ (mark.now ++ hex_of bytes.now)) }
+fn put_fill<O: Out>(out: &mut O, byte: u8)
+    ensures { Writes O.written out.old out.new (λ text. spaced text ((codes "*" ++ byte_word byte) ∷ [])) }
 {
-    out.put(mark);
-    put_digits(out, bytes);
+    out.put(b" *");
+    out.put(&pair_of(byte));
 }
 
-fn is_all(byte: u8, bytes: &[u8]) -> bool
-    ensures { result ≡ list_all (λ b. b == byte) bytes.now }
+fn put_given<O: Out>(out: &mut O, bytes: &[u8])
+    ensures { Writes O.written out.old out.new (λ text. spaced text ((codes "=" ++ hex_of bytes.now) ∷ [])) }
 {
-    bytes.iter().all(|b| *b == byte)
+    out.put(b" =");
+    put_digits(out, bytes);
 }

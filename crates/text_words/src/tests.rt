@@ -77,12 +77,13 @@ fn four_thousand_bytes_are_gathered(rt: HostRuntime) -> Result<(), Fail> {
 fn words_are_printed(rt: HostRuntime) -> Result<(), Fail> {
     let mut out = ToMemory::new(rt.alloc());
     put_each(&mut out, &DataOut::Fill(0x07));
+    put_block(&mut out, &[0x0C; BLOCK_LENGTH]);
     put_sent(&mut out, &DataOut::Nothing);
     put_sent(&mut out, &DataOut::Given(Bytes::new(rt.alloc())));
     let text = out.finish()?;
     assert_eq!(rt;
         text.as_slice(),
-        b"each 0 -127 0A ABCD *07 bad *FF - =".as_slice()
+        b"each 0 -127 0A ABCD *07 bad *FF *0C - =".as_slice()
     );
     Ok(())
 }
