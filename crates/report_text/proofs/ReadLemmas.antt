@@ -1,6 +1,6 @@
 -- Operations and entries read so far, and one more.
 use Rattle.std.proofs.Common.{◌≡◌, ◌≢◌, ℕ, ◌+◌, ◌≤◌, List, [], ◌∷◌, ◌++◌, length, Option, Some, None, Err, refl, sym, ap, ◌∙◌, subst, append_assoc, append-nil, length-append}
-use Rattle.std.specs.Prelude.{codes, fold}
+use Rattle.std.specs.Prelude.{codes, fold, option_map}
 use Rattle.std.specs.List.{flat_map}
 use Rattle.std.proofs.lemmas.Grind.{flat_map-append, fold-append}
 use Rattle.block_machine.specs.declared.entry.Entry.{Entry}
@@ -9,6 +9,7 @@ use Rattle.text_words.specs.Written.{Writes}
 use Rattle.report_text.specs.declared.fault.LineFault.{LineFault}
 use Rattle.report_text.specs.declared.fault.LineFault.TheVariants.{NoMemory, Unreadable}
 use Rattle.report_text.specs.declared.shown.Shown.{Shown}
+use Rattle.report_text.specs.Answers.{Adds}
 use Rattle.report_text.specs.Turns.{marked_operation, operation_words, marked_entry, entries_words}
 use Rattle.report_text.specs.Marks.{before_mark, from_mark}
 use Rattle.report_text.specs.OperationReading.{shown_from}
@@ -182,6 +183,30 @@ entries_all now words entries all so none = sym (append-nil entries) ∙ (ap (λ
 pub unless_memory : {A : Type 0} (fault : LineFault) (P : A → Type 0) → (fault ≡ Unreadable → ⊥) → IsFound (Err fault) P
 unless_memory NoMemory P other = tt
 unless_memory Unreadable P other = absurd (other refl)
+
+-- what an entry that is added was read as
+pub record Added (before after : List Entry) (meaning : Option Entry) : Type 0 where
+  pub entry : Entry
+  pub read : meaning ≡ Some entry
+  pub grown : after ≡ before ++ entry ∷ []
+
+pub added : (before after : List Entry) (meaning : Option Entry) → option_map (λ e. before ++ e ∷ []) meaning ≡ Some after → Added before after meaning
+added before after None h = absurd (apart h)
+  where
+    apart : None ≡ Some after → ⊥
+    apart e = cc
+added before after (Some e) h = record { entry = e; read = refl; grown = sym (cons_same h) }
+  where
+    cons_same : {x y : List Entry} → Some x ≡ Some y → x ≡ y
+    cons_same h = cc
+
+-- where nothing was added for want of sense, the words mean nothing
+pub unadded : (before after : List Entry) (meaning : Option Entry) (fault : LineFault) → fault ≡ Unreadable → Adds {A = Unit {0}} before after (Err fault) meaning → meaning ≡ None
+unadded before after meaning NoMemory e gives = absurd (apart e)
+  where
+    apart : NoMemory ≡ Unreadable → ⊥
+    apart e' = cc
+unadded before after meaning Unreadable e gives = gives
 
 -- a fault is want of memory whatever was to be found
 pub other_result : {A B : Type 0} (fault : LineFault) (P : A → Type 0) (Q : B → Type 0) → IsFound (Err fault) P → IsFound (Err fault) Q

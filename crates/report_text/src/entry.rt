@@ -1,16 +1,15 @@
 //! The text of an entry.
 ghost use Rattle.std.specs.Prelude.{◌≡◌, ◌∷◌, [], ◌++◌, decimal};
 ghost use Rattle.text_words.specs.Line.{spaced};
-ghost use Rattle.text_words.specs.Data.{block_word};
 ghost use Rattle.text_words.specs.Written.{Writes};
 ghost use Rattle.script_text.specs.Spelling.{attribute_word};
 ghost use Rattle.report_text.specs.Entries.{who_word, page_word, sense_words, function_words, flag_word, settings_words, seen_word, recovered_words, entry_words};
 
 use block_machine::{Entry, Recovered, Seen, Who};
-use disk_base::{Attribute, Block, Bytes, Function, Value};
+use disk_base::{Attribute, Bytes, Function};
 use mode_pages::Settings;
 use sense_data::Sense;
-use text_words::{Out, put_byte, put_hex, put_number, put_sent, put_value, put_word};
+use text_words::{Out, put_block, put_byte, put_hex, put_number, put_sent, put_value, put_word};
 
 /// The words of an entry, each after a blank.
 pub fn put_entry<O: Out>(out: &mut O, entry: &Entry)
@@ -116,12 +115,6 @@ fn attribute_word(attribute: Attribute) -> &'static [u8]
         Attribute::Ordered => b"O",
         Attribute::Head => b"H",
     }
-}
-
-fn put_block<O: Out>(out: &mut O, block: &Block)
-    ensures { Writes O.written out.old out.new (λ text. spaced text (block_word block.now ∷ [])) }
-{
-    put_value(out, &Value::Data(*block));
 }
 
 fn put_who<O: Out>(out: &mut O, who: Who)

@@ -1,9 +1,10 @@
-//! Reading an entry. More is taken than what is printed, since the line that is read is compared with the print.
+//! Reading an entry. More is taken than what is printed, since the line that is read is compared with the print. An entry is
+//! large, so each reader puts it behind those before in place of handing it up.
 ghost use Rattle.std.specs.Prelude.{◌≡◌, ◌∷◌, [], option_map};
 ghost use Rattle.text_words.specs.Line.{texts_of};
-ghost use Rattle.report_text.specs.Answers.{Gives};
+ghost use Rattle.report_text.specs.Answers.{Adds};
 ghost use Rattle.report_text.specs.Findings.{finding_of};
-ghost use Rattle.report_text.specs.EntryReading.{entry_form, arrived, arrived_words, lone_command, get_words, data_in, put_words, who_of, harden_words, pass_words, lose_words, page_words, end_words, function_of, func_words, flag_of, mode_words, seen_of, scanned_words, logged_words, recovered_of, on_words, cut_words, tick_words, entry_of, entry_from};
+ghost use Rattle.report_text.specs.EntryReading.{entry_form, arrived, arrived_words, lone_command, get_words, put_words, who_of, harden_words, pass_words, lose_words, page_words, end_words, function_of, func_words, flag_of, mode_words, seen_of, scanned_words, logged_words, recovered_of, on_words, cut_words, tick_words, entry_of, entry_from};
 
 use crate::fault::LineFault;
 use crate::fields::{
@@ -11,8 +12,8 @@ use crate::fields::{
     page_of, sense_of, sent_of, tag_of,
 };
 use crate::form::EntryForm;
-use block_machine::{Entry, Recovered, Seen, Who};
-use disk_base::{Block, Cdb, Function, Lba, Value};
+use block_machine::{Entries, Entry, Recovered, Seen, Who};
+use disk_base::{Cdb, Function, Lba, Value};
 use mode_pages::Settings;
 use scan_log::Finding;
 use sense_data::Reply;
@@ -22,26 +23,32 @@ use sense_data::codes::{
 use std::alloc::Global;
 use text_words::{read_byte, read_value};
 
-/// The entry that words give, where so many minutes have passed since the power came on.
-pub fn entry_from(alloc: Global, minutes: u32, words: &[&[u8]]) -> Result<Entry, LineFault>
-    ensures { Gives result (entry_from minutes (texts_of words.now)) }
+/// Puts the entry that words give behind those before, where so many minutes have passed since the power came on.
+pub fn push_entry(
+    alloc: Global,
+    minutes: u32,
+    words: &[&[u8]],
+    entries: &mut Entries,
+) -> Result<(), LineFault>
+    ensures { Adds entries.old entries.new result (entry_from minutes (texts_of words.now)) }
 {
     match words {
         [] => Err(LineFault::Unreadable),
-        [first, rest @ ..] => entry_behind(alloc, minutes, first, rest),
+        [first, rest @ ..] => push_behind(alloc, minutes, first, rest, entries),
     }
 }
 
-fn entry_behind(
+fn push_behind(
     alloc: Global,
     minutes: u32,
     first: &[u8],
     words: &[&[u8]],
-) -> Result<Entry, LineFault>
-    ensures { Gives result (entry_from minutes (first.now ∷ texts_of words.now)) }
+    entries: &mut Entries,
+) -> Result<(), LineFault>
+    ensures { Adds entries.old entries.new result (entry_from minutes (first.now ∷ texts_of words.now)) }
 {
     let form = entry_form(first).ok_or(LineFault::Unreadable)?;
-    entry_of(alloc, minutes, form, words)
+    push_of(alloc, minutes, form, words, entries)
 }
 
 /// The form of an entry, by its first word.
@@ -92,43 +99,44 @@ fn entry_form(first: &[u8]) -> Option<EntryForm>
     }
 }
 
-// The entry of a form, by the words behind the first.
-fn entry_of(
+// Puts the entry of a form, by the words behind the first.
+fn push_of(
     alloc: Global,
     minutes: u32,
     form: EntryForm,
     words: &[&[u8]],
-) -> Result<Entry, LineFault>
-    ensures { Gives result (entry_of minutes form (texts_of words.now)) }
+    entries: &mut Entries,
+) -> Result<(), LineFault>
+    ensures { Adds entries.old entries.new result (entry_of minutes form (texts_of words.now)) }
 {
     match form {
-        EntryForm::Arrived => arrived_words(alloc, words),
-        EntryForm::Page => page_words(alloc, words),
-        EntryForm::Started => started(words).ok_or(LineFault::Unreadable),
-        EntryForm::Get => get_words(words).ok_or(LineFault::Unreadable),
-        EntryForm::Put => put_words(words).ok_or(LineFault::Unreadable),
-        EntryForm::Harden => harden_words(words).ok_or(LineFault::Unreadable),
-        EntryForm::Passed => pass_words(words).ok_or(LineFault::Unreadable),
-        EntryForm::GiveUp => lose_words(words).ok_or(LineFault::Unreadable),
-        EntryForm::Ended => end_words(words).ok_or(LineFault::Unreadable),
-        EntryForm::Aborted => aborted(words).ok_or(LineFault::Unreadable),
-        EntryForm::Asked => func_words(words).ok_or(LineFault::Unreadable),
-        EntryForm::Mode => mode_words(words).ok_or(LineFault::Unreadable),
-        EntryForm::Scanned => scanned_words(words).ok_or(LineFault::Unreadable),
-        EntryForm::Logged => logged_words(minutes, words).ok_or(LineFault::Unreadable),
-        EntryForm::Cut => cut_words(words).ok_or(LineFault::Unreadable),
-        EntryForm::PoweredOn => on_words(words).ok_or(LineFault::Unreadable),
-        EntryForm::Tick => tick_words(words).ok_or(LineFault::Unreadable),
-        EntryForm::Blank => blank(words).ok_or(LineFault::Unreadable),
-        EntryForm::Fresh => fresh(words).ok_or(LineFault::Unreadable),
+        EntryForm::Arrived => arrived_words(alloc, words, entries),
+        EntryForm::Page => page_words(alloc, words, entries),
+        EntryForm::Started => started(words, entries),
+        EntryForm::Get => get_words(words, entries),
+        EntryForm::Put => put_words(words, entries),
+        EntryForm::Harden => harden_words(words, entries),
+        EntryForm::Passed => pass_words(words, entries),
+        EntryForm::GiveUp => lose_words(words, entries),
+        EntryForm::Ended => end_words(words, entries),
+        EntryForm::Aborted => aborted(words, entries),
+        EntryForm::Asked => func_words(words, entries),
+        EntryForm::Mode => mode_words(words, entries),
+        EntryForm::Scanned => scanned_words(words, entries),
+        EntryForm::Logged => logged_words(minutes, words, entries),
+        EntryForm::Cut => cut_words(words, entries),
+        EntryForm::PoweredOn => on_words(words, entries),
+        EntryForm::Tick => tick_words(words, entries),
+        EntryForm::Blank => blank(words, entries),
+        EntryForm::Fresh => fresh(words, entries),
     }
 }
 
-fn arrived_words(alloc: Global, words: &[&[u8]]) -> Result<Entry, LineFault>
-    ensures { Gives result (arrived_words (texts_of words.now)) }
+fn arrived_words(alloc: Global, words: &[&[u8]], entries: &mut Entries) -> Result<(), LineFault>
+    ensures { Adds entries.old entries.new result (arrived_words (texts_of words.now)) }
 {
     match words {
-        [c, i, t, a, cdb, sent] => arrived(alloc, c, i, t, a, cdb, sent),
+        [c, i, t, a, cdb, sent] => arrived(alloc, c, i, t, a, cdb, sent, entries),
         _ => Err(LineFault::Unreadable),
     }
 }
@@ -142,8 +150,9 @@ fn arrived(
     a: &[u8],
     cdb: &[u8],
     sent: &[u8],
-) -> Result<Entry, LineFault>
-    ensures { Gives result (arrived c.now i.now t.now a.now cdb.now sent.now) }
+    entries: &mut Entries,
+) -> Result<(), LineFault>
+    ensures { Adds entries.old entries.new result (arrived c.now i.now t.now a.now cdb.now sent.now) }
 {
     let c = command_of(c).ok_or(LineFault::Unreadable)?;
     let initiator = initiator_of(i).ok_or(LineFault::Unreadable)?;
@@ -151,31 +160,33 @@ fn arrived(
     let block = bytes_of(alloc, cdb)?;
     let cdb = Cdb::new(block.as_slice()).ok_or(LineFault::Unreadable)?;
     let sent = sent_of(alloc, sent)?;
-    Ok(Entry::Arrived {
+    entries.push(Entry::Arrived {
         c,
         initiator,
         tag,
         attribute: attribute_of(a),
         cdb,
         sent,
-    })
+    })?;
+    Ok(())
 }
 
-fn page_words(alloc: Global, words: &[&[u8]]) -> Result<Entry, LineFault>
-    ensures { Gives result (page_words (texts_of words.now)) }
+fn page_words(alloc: Global, words: &[&[u8]], entries: &mut Entries) -> Result<(), LineFault>
+    ensures { Adds entries.old entries.new result (page_words (texts_of words.now)) }
 {
     match words {
-        [c, bytes] => page_entry(alloc, c, bytes),
+        [c, bytes] => page_entry(alloc, c, bytes, entries),
         _ => Err(LineFault::Unreadable),
     }
 }
 
-fn page_entry(alloc: Global, c: &[u8], word: &[u8]) -> Result<Entry, LineFault>
-    ensures { Gives result (page_words (c.now ∷ word.now ∷ [])) }
+fn page_entry(alloc: Global, c: &[u8], word: &[u8], entries: &mut Entries) -> Result<(), LineFault>
+    ensures { Adds entries.old entries.new result (page_words (c.now ∷ word.now ∷ [])) }
 {
     let c = command_of(c).ok_or(LineFault::Unreadable)?;
     let bytes = page_of(alloc, word)?;
-    Ok(Entry::Page { c, bytes })
+    entries.push(Entry::Page { c, bytes })?;
+    Ok(())
 }
 
 fn lone_command(words: &[&[u8]]) -> Option<u32>
@@ -187,94 +198,100 @@ fn lone_command(words: &[&[u8]]) -> Option<u32>
     }
 }
 
-fn started(words: &[&[u8]]) -> Option<Entry>
-    ensures { result ≡ option_map Entry.Started (lone_command (texts_of words.now)) }
+fn started(words: &[&[u8]], entries: &mut Entries) -> Result<(), LineFault>
+    ensures { Adds entries.old entries.new result (option_map Entry.Started (lone_command (texts_of words.now))) }
 {
-    let c = lone_command(words)?;
-    Some(Entry::Started { c })
+    let c = lone_command(words).ok_or(LineFault::Unreadable)?;
+    entries.push(Entry::Started { c })?;
+    Ok(())
 }
 
-fn aborted(words: &[&[u8]]) -> Option<Entry>
-    ensures { result ≡ option_map Entry.Aborted (lone_command (texts_of words.now)) }
+fn aborted(words: &[&[u8]], entries: &mut Entries) -> Result<(), LineFault>
+    ensures { Adds entries.old entries.new result (option_map Entry.Aborted (lone_command (texts_of words.now))) }
 {
-    let c = lone_command(words)?;
-    Some(Entry::Aborted { c })
+    let c = lone_command(words).ok_or(LineFault::Unreadable)?;
+    entries.push(Entry::Aborted { c })?;
+    Ok(())
 }
 
-fn blank(words: &[&[u8]]) -> Option<Entry>
-    ensures { result ≡ option_map Entry.Blank (lone_command (texts_of words.now)) }
+fn blank(words: &[&[u8]], entries: &mut Entries) -> Result<(), LineFault>
+    ensures { Adds entries.old entries.new result (option_map Entry.Blank (lone_command (texts_of words.now))) }
 {
-    let c = lone_command(words)?;
-    Some(Entry::Blank { c })
+    let c = lone_command(words).ok_or(LineFault::Unreadable)?;
+    entries.push(Entry::Blank { c })?;
+    Ok(())
 }
 
-fn fresh(words: &[&[u8]]) -> Option<Entry>
-    ensures { result ≡ option_map Entry.Fresh (lone_command (texts_of words.now)) }
+fn fresh(words: &[&[u8]], entries: &mut Entries) -> Result<(), LineFault>
+    ensures { Adds entries.old entries.new result (option_map Entry.Fresh (lone_command (texts_of words.now))) }
 {
-    let c = lone_command(words)?;
-    Some(Entry::Fresh { c })
+    let c = lone_command(words).ok_or(LineFault::Unreadable)?;
+    entries.push(Entry::Fresh { c })?;
+    Ok(())
 }
 
-fn get_words(words: &[&[u8]]) -> Option<Entry>
-    ensures { result ≡ get_words (texts_of words.now) }
+fn get_words(words: &[&[u8]], entries: &mut Entries) -> Result<(), LineFault>
+    ensures { Adds entries.old entries.new result (get_words (texts_of words.now)) }
 {
     match words {
-        [c, b, v] => get_entry(c, b, v),
-        _ => None,
+        [c, b, v] => get_entry(c, b, v, entries),
+        _ => Err(LineFault::Unreadable),
     }
 }
 
-fn get_entry(c: &[u8], b: &[u8], v: &[u8]) -> Option<Entry>
-    ensures { result ≡ get_words (c.now ∷ b.now ∷ v.now ∷ []) }
+fn get_entry(c: &[u8], b: &[u8], v: &[u8], entries: &mut Entries) -> Result<(), LineFault>
+    ensures { Adds entries.old entries.new result (get_words (c.now ∷ b.now ∷ v.now ∷ [])) }
 {
-    let c = command_of(c)?;
-    let b = block_of(b)?;
-    let value = read_value(v)?;
-    Some(Entry::Get { c, b, value })
+    let c = command_of(c).ok_or(LineFault::Unreadable)?;
+    let b = block_of(b).ok_or(LineFault::Unreadable)?;
+    match read_value(v) {
+        Some(value) => {
+            entries.push(Entry::Get { c, b, value })?;
+            Ok(())
+        }
+        None => Err(LineFault::Unreadable),
+    }
 }
 
-fn put_words(words: &[&[u8]]) -> Option<Entry>
-    ensures { result ≡ put_words (texts_of words.now) }
+fn put_words(words: &[&[u8]], entries: &mut Entries) -> Result<(), LineFault>
+    ensures { Adds entries.old entries.new result (put_words (texts_of words.now)) }
 {
     match words {
-        [c, b, v] => put_entry(c, b, v),
-        _ => None,
+        [c, b, v] => put_entry(c, b, v, entries),
+        _ => Err(LineFault::Unreadable),
     }
 }
 
-fn put_entry(c: &[u8], b: &[u8], v: &[u8]) -> Option<Entry>
-    ensures { result ≡ put_words (c.now ∷ b.now ∷ v.now ∷ []) }
+fn put_entry(c: &[u8], b: &[u8], v: &[u8], entries: &mut Entries) -> Result<(), LineFault>
+    ensures { Adds entries.old entries.new result (put_words (c.now ∷ b.now ∷ v.now ∷ [])) }
 {
-    let c = command_of(c)?;
-    let b = block_of(b)?;
-    let value = data_in(read_value(v)?)?;
-    Some(Entry::Put { c, b, value })
-}
-
-fn data_in(value: Value) -> Option<Block>
-    ensures { result ≡ data_in value }
-{
-    match value {
-        Value::Data(block) => Some(block),
-        Value::Lost => None,
+    let c = command_of(c).ok_or(LineFault::Unreadable)?;
+    let b = block_of(b).ok_or(LineFault::Unreadable)?;
+    match read_value(v) {
+        Some(Value::Data(value)) => {
+            entries.push(Entry::Put { c, b, value })?;
+            Ok(())
+        }
+        _ => Err(LineFault::Unreadable),
     }
 }
 
-fn harden_words(words: &[&[u8]]) -> Option<Entry>
-    ensures { result ≡ harden_words (texts_of words.now) }
+fn harden_words(words: &[&[u8]], entries: &mut Entries) -> Result<(), LineFault>
+    ensures { Adds entries.old entries.new result (harden_words (texts_of words.now)) }
 {
     match words {
-        [who, b] => harden_entry(who, b),
-        _ => None,
+        [who, b] => harden_entry(who, b, entries),
+        _ => Err(LineFault::Unreadable),
     }
 }
 
-fn harden_entry(who: &[u8], b: &[u8]) -> Option<Entry>
-    ensures { result ≡ harden_words (who.now ∷ b.now ∷ []) }
+fn harden_entry(who: &[u8], b: &[u8], entries: &mut Entries) -> Result<(), LineFault>
+    ensures { Adds entries.old entries.new result (harden_words (who.now ∷ b.now ∷ [])) }
 {
-    let who = who_of(who)?;
-    let b = block_of(b)?;
-    Some(Entry::Harden { who, b })
+    let who = who_of(who).ok_or(LineFault::Unreadable)?;
+    let b = block_of(b).ok_or(LineFault::Unreadable)?;
+    entries.push(Entry::Harden { who, b })?;
+    Ok(())
 }
 
 fn who_of(word: &[u8]) -> Option<Who>
@@ -287,77 +304,81 @@ fn who_of(word: &[u8]) -> Option<Who>
     }
 }
 
-fn pass_words(words: &[&[u8]]) -> Option<Entry>
-    ensures { result ≡ pass_words (texts_of words.now) }
+fn pass_words(words: &[&[u8]], entries: &mut Entries) -> Result<(), LineFault>
+    ensures { Adds entries.old entries.new result (pass_words (texts_of words.now)) }
 {
     match words {
-        [c, from, to] => pass_entry(c, from, to),
-        _ => None,
+        [c, from, to] => pass_entry(c, from, to, entries),
+        _ => Err(LineFault::Unreadable),
     }
 }
 
-fn pass_entry(c: &[u8], from: &[u8], to: &[u8]) -> Option<Entry>
-    ensures { result ≡ pass_words (c.now ∷ from.now ∷ to.now ∷ []) }
+fn pass_entry(c: &[u8], from: &[u8], to: &[u8], entries: &mut Entries) -> Result<(), LineFault>
+    ensures { Adds entries.old entries.new result (pass_words (c.now ∷ from.now ∷ to.now ∷ [])) }
 {
-    let c = command_of(c)?;
-    let from = block_of(from)?;
-    let to = block_of(to)?;
-    Some(Entry::Passed { c, from, to })
+    let c = command_of(c).ok_or(LineFault::Unreadable)?;
+    let from = block_of(from).ok_or(LineFault::Unreadable)?;
+    let to = block_of(to).ok_or(LineFault::Unreadable)?;
+    entries.push(Entry::Passed { c, from, to })?;
+    Ok(())
 }
 
-fn lose_words(words: &[&[u8]]) -> Option<Entry>
-    ensures { result ≡ lose_words (texts_of words.now) }
+fn lose_words(words: &[&[u8]], entries: &mut Entries) -> Result<(), LineFault>
+    ensures { Adds entries.old entries.new result (lose_words (texts_of words.now)) }
 {
     match words {
-        [b] => lose_entry(b),
-        _ => None,
+        [b] => lose_entry(b, entries),
+        _ => Err(LineFault::Unreadable),
     }
 }
 
-fn lose_entry(b: &[u8]) -> Option<Entry>
-    ensures { result ≡ lose_words (b.now ∷ []) }
+fn lose_entry(b: &[u8], entries: &mut Entries) -> Result<(), LineFault>
+    ensures { Adds entries.old entries.new result (lose_words (b.now ∷ [])) }
 {
-    let b = block_of(b)?;
-    Some(Entry::GiveUp { b })
+    let b = block_of(b).ok_or(LineFault::Unreadable)?;
+    entries.push(Entry::GiveUp { b })?;
+    Ok(())
 }
 
-fn end_words(words: &[&[u8]]) -> Option<Entry>
-    ensures { result ≡ end_words (texts_of words.now) }
+fn end_words(words: &[&[u8]], entries: &mut Entries) -> Result<(), LineFault>
+    ensures { Adds entries.old entries.new result (end_words (texts_of words.now)) }
 {
     match words {
-        [c, ss] => end_plain(c, ss),
-        [c, ss, sense] => end_sense(c, ss, sense),
-        _ => None,
+        [c, ss] => end_plain(c, ss, entries),
+        [c, ss, sense] => end_sense(c, ss, sense, entries),
+        _ => Err(LineFault::Unreadable),
     }
 }
 
-fn end_plain(c: &[u8], ss: &[u8]) -> Option<Entry>
-    ensures { result ≡ end_words (c.now ∷ ss.now ∷ []) }
+fn end_plain(c: &[u8], ss: &[u8], entries: &mut Entries) -> Result<(), LineFault>
+    ensures { Adds entries.old entries.new result (end_words (c.now ∷ ss.now ∷ [])) }
 {
-    let c = command_of(c)?;
-    let status = read_byte(ss)?;
-    Some(Entry::Ended {
+    let c = command_of(c).ok_or(LineFault::Unreadable)?;
+    let status = read_byte(ss).ok_or(LineFault::Unreadable)?;
+    entries.push(Entry::Ended {
         c,
         reply: Reply {
             status,
             sense: None,
         },
-    })
+    })?;
+    Ok(())
 }
 
-fn end_sense(c: &[u8], ss: &[u8], sense: &[u8]) -> Option<Entry>
-    ensures { result ≡ end_words (c.now ∷ ss.now ∷ sense.now ∷ []) }
+fn end_sense(c: &[u8], ss: &[u8], sense: &[u8], entries: &mut Entries) -> Result<(), LineFault>
+    ensures { Adds entries.old entries.new result (end_words (c.now ∷ ss.now ∷ sense.now ∷ [])) }
 {
-    let c = command_of(c)?;
-    let status = read_byte(ss)?;
-    let sense = sense_of(sense)?;
-    Some(Entry::Ended {
+    let c = command_of(c).ok_or(LineFault::Unreadable)?;
+    let status = read_byte(ss).ok_or(LineFault::Unreadable)?;
+    let sense = sense_of(sense).ok_or(LineFault::Unreadable)?;
+    entries.push(Entry::Ended {
         c,
         reply: Reply {
             status,
             sense: Some(sense),
         },
-    })
+    })?;
+    Ok(())
 }
 
 fn function_of(word: &[u8]) -> Function
@@ -372,35 +393,37 @@ fn function_of(word: &[u8]) -> Function
     }
 }
 
-fn func_words(words: &[&[u8]]) -> Option<Entry>
-    ensures { result ≡ func_words (texts_of words.now) }
+fn func_words(words: &[&[u8]], entries: &mut Entries) -> Result<(), LineFault>
+    ensures { Adds entries.old entries.new result (func_words (texts_of words.now)) }
 {
     match words {
-        [i, what] => func_plain(i, what),
-        [i, what, t] => func_abort(i, what, t),
-        _ => None,
+        [i, what] => func_plain(i, what, entries),
+        [i, what, t] => func_abort(i, what, t, entries),
+        _ => Err(LineFault::Unreadable),
     }
 }
 
-fn func_plain(i: &[u8], what: &[u8]) -> Option<Entry>
-    ensures { result ≡ func_words (i.now ∷ what.now ∷ []) }
+fn func_plain(i: &[u8], what: &[u8], entries: &mut Entries) -> Result<(), LineFault>
+    ensures { Adds entries.old entries.new result (func_words (i.now ∷ what.now ∷ [])) }
 {
-    let initiator = initiator_of(i)?;
-    Some(Entry::Asked {
+    let initiator = initiator_of(i).ok_or(LineFault::Unreadable)?;
+    entries.push(Entry::Asked {
         initiator,
         what: function_of(what),
-    })
+    })?;
+    Ok(())
 }
 
-fn func_abort(i: &[u8], _what: &[u8], t: &[u8]) -> Option<Entry>
-    ensures { result ≡ func_words (i.now ∷ _what.now ∷ t.now ∷ []) }
+fn func_abort(i: &[u8], _what: &[u8], t: &[u8], entries: &mut Entries) -> Result<(), LineFault>
+    ensures { Adds entries.old entries.new result (func_words (i.now ∷ _what.now ∷ t.now ∷ [])) }
 {
-    let initiator = initiator_of(i)?;
-    let tag = tag_of(t)?;
-    Some(Entry::Asked {
+    let initiator = initiator_of(i).ok_or(LineFault::Unreadable)?;
+    let tag = tag_of(t).ok_or(LineFault::Unreadable)?;
+    entries.push(Entry::Asked {
         initiator,
         what: Function::Abort(tag),
-    })
+    })?;
+    Ok(())
 }
 
 fn flag_of(word: &[u8]) -> bool
@@ -409,14 +432,14 @@ fn flag_of(word: &[u8]) -> bool
     word == b"1".as_slice()
 }
 
-fn mode_words(words: &[&[u8]]) -> Option<Entry>
-    ensures { result ≡ mode_words (texts_of words.now) }
+fn mode_words(words: &[&[u8]], entries: &mut Entries) -> Result<(), LineFault>
+    ensures { Adds entries.old entries.new result (mode_words (texts_of words.now)) }
 {
     match words {
         [awre, arre, per, retry, wce, rcd, bms] => mode_entry(
-            awre, arre, per, retry, wce, rcd, bms,
+            awre, arre, per, retry, wce, rcd, bms, entries,
         ),
-        _ => None,
+        _ => Err(LineFault::Unreadable),
     }
 }
 
@@ -428,11 +451,12 @@ fn mode_entry(
     wce: &[u8],
     rcd: &[u8],
     bms: &[u8],
-) -> Option<Entry>
-    ensures { result ≡ mode_words (awre.now ∷ arre.now ∷ per.now ∷ retry.now ∷ wce.now ∷ rcd.now ∷ bms.now ∷ []) }
+    entries: &mut Entries,
+) -> Result<(), LineFault>
+    ensures { Adds entries.old entries.new result (mode_words (awre.now ∷ arre.now ∷ per.now ∷ retry.now ∷ wce.now ∷ rcd.now ∷ bms.now ∷ [])) }
 {
-    let retry = byte_of(retry)?;
-    Some(Entry::Mode {
+    let retry = byte_of(retry).ok_or(LineFault::Unreadable)?;
+    entries.push(Entry::Mode {
         settings: Settings {
             awre: flag_of(awre),
             arre: flag_of(arre),
@@ -442,7 +466,8 @@ fn mode_entry(
             rcd: flag_of(rcd),
             bms: flag_of(bms),
         },
-    })
+    })?;
+    Ok(())
 }
 
 fn seen_of(word: &[u8]) -> Seen
@@ -459,41 +484,48 @@ fn seen_of(word: &[u8]) -> Seen
     }
 }
 
-fn scanned_words(words: &[&[u8]]) -> Option<Entry>
-    ensures { result ≡ scanned_words (texts_of words.now) }
+fn scanned_words(words: &[&[u8]], entries: &mut Entries) -> Result<(), LineFault>
+    ensures { Adds entries.old entries.new result (scanned_words (texts_of words.now)) }
 {
     match words {
-        [b, what] => scanned_entry(b, what),
-        _ => None,
+        [b, what] => scanned_entry(b, what, entries),
+        _ => Err(LineFault::Unreadable),
     }
 }
 
-fn scanned_entry(b: &[u8], what: &[u8]) -> Option<Entry>
-    ensures { result ≡ scanned_words (b.now ∷ what.now ∷ []) }
+fn scanned_entry(b: &[u8], what: &[u8], entries: &mut Entries) -> Result<(), LineFault>
+    ensures { Adds entries.old entries.new result (scanned_words (b.now ∷ what.now ∷ [])) }
 {
-    let b = block_of(b)?;
-    Some(Entry::Scanned {
+    let b = block_of(b).ok_or(LineFault::Unreadable)?;
+    entries.push(Entry::Scanned {
         b,
         what: seen_of(what),
-    })
+    })?;
+    Ok(())
 }
 
-fn logged_words(minutes: u32, words: &[&[u8]]) -> Option<Entry>
-    ensures { result ≡ logged_words minutes (texts_of words.now) }
+fn logged_words(minutes: u32, words: &[&[u8]], entries: &mut Entries) -> Result<(), LineFault>
+    ensures { Adds entries.old entries.new result (logged_words minutes (texts_of words.now)) }
 {
     match words {
-        [status, b] => logged_entry(minutes, status, b),
-        _ => None,
+        [status, b] => logged_entry(minutes, status, b, entries),
+        _ => Err(LineFault::Unreadable),
     }
 }
 
-fn logged_entry(minutes: u32, status: &[u8], b: &[u8]) -> Option<Entry>
-    ensures { result ≡ logged_words minutes (status.now ∷ b.now ∷ []) }
+fn logged_entry(
+    minutes: u32,
+    status: &[u8],
+    b: &[u8],
+    entries: &mut Entries,
+) -> Result<(), LineFault>
+    ensures { Adds entries.old entries.new result (logged_words minutes (status.now ∷ b.now ∷ [])) }
 {
-    let status = byte_of(status)?;
-    let b = block_of(b)?;
-    let finding = finding_of(minutes, status, b)?;
-    Some(Entry::Logged { finding })
+    let status = byte_of(status).ok_or(LineFault::Unreadable)?;
+    let b = block_of(b).ok_or(LineFault::Unreadable)?;
+    let finding = finding_of(minutes, status, b).ok_or(LineFault::Unreadable)?;
+    entries.push(Entry::Logged { finding })?;
+    Ok(())
 }
 
 fn finding_of(minutes: u32, status: u8, b: Lba) -> Option<Finding>
@@ -527,43 +559,48 @@ fn recovered_of(what: &[u8], n: &[u8]) -> Option<Recovered>
     }
 }
 
-fn on_words(words: &[&[u8]]) -> Option<Entry>
-    ensures { result ≡ on_words (texts_of words.now) }
+fn on_words(words: &[&[u8]], entries: &mut Entries) -> Result<(), LineFault>
+    ensures { Adds entries.old entries.new result (on_words (texts_of words.now)) }
 {
     match words {
-        [what, n] => on_entry(what, n),
-        _ => None,
+        [what, n] => on_entry(what, n, entries),
+        _ => Err(LineFault::Unreadable),
     }
 }
 
-fn on_entry(what: &[u8], n: &[u8]) -> Option<Entry>
-    ensures { result ≡ on_words (what.now ∷ n.now ∷ []) }
+fn on_entry(what: &[u8], n: &[u8], entries: &mut Entries) -> Result<(), LineFault>
+    ensures { Adds entries.old entries.new result (on_words (what.now ∷ n.now ∷ [])) }
 {
-    let outcome = recovered_of(what, n)?;
-    Some(Entry::PoweredOn { outcome })
+    let outcome = recovered_of(what, n).ok_or(LineFault::Unreadable)?;
+    entries.push(Entry::PoweredOn { outcome })?;
+    Ok(())
 }
 
-fn cut_words(words: &[&[u8]]) -> Option<Entry>
-    ensures { result ≡ cut_words (texts_of words.now) }
+fn cut_words(words: &[&[u8]], entries: &mut Entries) -> Result<(), LineFault>
+    ensures { Adds entries.old entries.new result (cut_words (texts_of words.now)) }
 {
     match words {
-        [] => Some(Entry::Cut),
-        _ => None,
+        [] => {
+            entries.push(Entry::Cut)?;
+            Ok(())
+        }
+        _ => Err(LineFault::Unreadable),
     }
 }
 
-fn tick_words(words: &[&[u8]]) -> Option<Entry>
-    ensures { result ≡ tick_words (texts_of words.now) }
+fn tick_words(words: &[&[u8]], entries: &mut Entries) -> Result<(), LineFault>
+    ensures { Adds entries.old entries.new result (tick_words (texts_of words.now)) }
 {
     match words {
-        [n] => tick_entry(n),
-        _ => None,
+        [n] => tick_entry(n, entries),
+        _ => Err(LineFault::Unreadable),
     }
 }
 
-fn tick_entry(n: &[u8]) -> Option<Entry>
-    ensures { result ≡ tick_words (n.now ∷ []) }
+fn tick_entry(n: &[u8], entries: &mut Entries) -> Result<(), LineFault>
+    ensures { Adds entries.old entries.new result (tick_words (n.now ∷ [])) }
 {
-    let minutes = minutes_of(n)?;
-    Some(Entry::Tick { minutes })
+    let minutes = minutes_of(n).ok_or(LineFault::Unreadable)?;
+    entries.push(Entry::Tick { minutes })?;
+    Ok(())
 }

@@ -1,5 +1,5 @@
 //! Reading a report: one pass over its lines.
-ghost use Rattle.std.specs.Prelude.{◌≡◌, ◌-◌, ◌+◌, ◌^◌, ◌<◌, ◌∷◌, ◌++◌, [], List, ℕ, length, IfOk, IfSome, IfNone};
+ghost use Rattle.std.specs.Prelude.{◌≡◌, ◌==◌, ◌-◌, ◌+◌, ◌^◌, ◌<◌, ◌∷◌, ◌++◌, [], List, ℕ, length, IfOk, IfSome, IfNone};
 ghost use Rattle.text_words.specs.Line.{parts_at};
 ghost use Rattle.block_machine.specs.declared.turn.Turn.{Turn as TurnValue};
 ghost use Rattle.report_text.specs.Reading.{IsReport, AreRead, IfLine};
@@ -28,7 +28,7 @@ pub fn read_run(alloc: Global, bytes: &[u8]) -> Result<Turns, ReportFault>
     let mut rest = bytes;
     while let Some((line, behind)) = next_line(rest) {
         if is_summary(line) {
-            if behind.is_empty() {
+            if is_end(behind) {
                 return Ok(turns);
             }
             return Err(ReportFault::Line(number + 1));
@@ -45,6 +45,13 @@ pub fn read_run(alloc: Global, bytes: &[u8]) -> Result<Turns, ReportFault>
         rest = behind;
     }
     Err(ReportFault::Line(number))
+}
+
+// Whether nothing more stands behind a line.
+fn is_end(behind: &[u8]) -> bool
+    ensures { result ≡ (length behind.now == 0) }
+{
+    behind.is_empty()
 }
 
 fn fault_at(line: u32, fault: LineFault) -> ReportFault

@@ -3,7 +3,7 @@
 ghost use Rattle.std.specs.Prelude.{◌≡◌, ◌∷◌, ◌++◌, ◌+◌, ◌^◌, ◌<◌, ◌≤◌, [], List, ℕ, length, IfSome, IfOk, IfNone, IsSomeAnd, Some, None, Err};
 ghost use Rattle.text_words.specs.Line.{spaced};
 ghost use Rattle.text_words.specs.Written.{Writes};
-ghost use Rattle.report_text.specs.Turns.{operation_words, entries_words};
+ghost use Rattle.report_text.specs.Turns.{operation_words, marked_entry, entries_words};
 ghost use Rattle.report_text.specs.Marks.{before_mark, from_mark, words_in};
 ghost use Rattle.report_text.specs.Findings.{minutes_after};
 ghost use Rattle.report_text.specs.LabelReading.{label_from};
@@ -14,7 +14,7 @@ ghost use Rattle.report_text.specs.declared.shown.Shown.{Shown as ShownValue};
 ghost use Rattle.block_machine.specs.declared.entry.Entry.{Entry as EntryValue};
 ghost use Rattle.block_machine.specs.declared.turn.Turn.{Turn as TurnValue};
 
-use crate::entry_reading::entry_from;
+use crate::entry_reading::push_entry;
 use crate::fault::LineFault;
 use crate::label_reading::label_from;
 use crate::operation_reading::shown_from;
@@ -124,17 +124,32 @@ fn read_entries<'a, O: Out>(
     let mut now = minutes;
     let mut left = words;
     while let Some(behind) = behind_word(b">", left) {
-        match next_entry(alloc, now, behind) {
-            Ok((entry, rest)) => {
-                put_marked(out, &entry);
-                now = minutes_after(now, &entry);
-                entries.push(entry)?;
-                left = rest;
-            }
-            Err(fault) => return Err(fault),
+        match front(behind) {
+            Some((own, rest)) => match push_entry(alloc, now, own.as_slice(), &mut entries) {
+                Ok(()) => {
+                    now = put_last(out, now, entries.as_slice());
+                    left = rest;
+                }
+                Err(fault) => return Err(fault),
+            },
+            None => return Err(LineFault::Unreadable),
         }
     }
     Ok((entries, now))
+}
+
+// Prints the last entry again: the minutes behind it, where so many had passed before.
+fn put_last<O: Out>(out: &mut O, minutes: u32, entries: &[Entry]) -> u32
+    ensures written { (before : List EntryValue) (last : EntryValue) → entries.now ≡ before ++ last ∷ [] → Writes O.written out.old out.new (λ text. spaced text (marked_entry last)) }
+    ensures minutes { (before : List EntryValue) (last : EntryValue) → entries.now ≡ before ++ last ∷ [] → result ≡ minutes_after minutes last }
+{
+    match entries {
+        [.., last] => {
+            put_marked(out, last);
+            minutes_after(minutes, last)
+        }
+        [] => minutes,
+    }
 }
 
 fn minutes_after(minutes: u32, entry: &Entry) -> u32
@@ -159,24 +174,5 @@ fn next_op<'a>(words: Words<'a>) -> Option<(Shown, Words<'a>)>
             None => None,
         },
         None => None,
-    }
-}
-
-// The entry behind its mark, and the words behind it.
-fn next_entry<'a>(
-    alloc: Global,
-    minutes: u32,
-    words: Words<'a>,
-) -> Result<(Entry, Words<'a>), LineFault>
-    ensures ok { IfOk result (λ r. entry_from minutes (before_mark (words_in words.entry)) ≡ Some r.0) }
-    ensures rest { IfOk result (λ r. words_in r.1 ≡ from_mark (words_in words.entry)) }
-    ensures err { result ≡ Err LineFault.Unreadable → length (before_mark (words_in words.entry)) ≤ 8 → entry_from minutes (before_mark (words_in words.entry)) ≡ None }
-{
-    match front(words) {
-        Some((own, rest)) => match entry_from(alloc, minutes, own.as_slice()) {
-            Ok(entry) => Ok((entry, rest)),
-            Err(fault) => Err(fault),
-        },
-        None => Err(LineFault::Unreadable),
     }
 }

@@ -7,15 +7,15 @@ use Rattle.report_text.proofs.read.read_run.Goals as goal
 pub loop-line-init : goal.loop-line-init
 loop-line-init c = rw c.new-turns.ensures (nothing_read c.args.bytes.now)
 
-pub returns-then-is_empty-clause-ok : goal.returns-then-is_empty-clause-ok
-returns-then-is_empty-clause-ok c =
+pub returns-then-is_end-clause-ok : goal.returns-then-is_end-clause-ok
+returns-then-is_end-clause-ok c =
     let told = c.if-is_summary.ensures.yes refl in
     let p = place_at c.loop-line.number c.loop-line.minutes c.loop-line.shown in
     report_is c.args.bytes.now c.loop-line.rest.now c.in-Some.line.now c.in-Some.behind.now c.loop-line.turns p told.0 c.loop-line.invariant c.in-Some.ensures.some told.1 told.2
-    (empty_is c.in-Some.behind.now (sym c.is_empty.ensures ∙ c.if-is_empty.true))
+    (empty_is c.in-Some.behind.now (sym c.is_end.ensures ∙ c.if-is_end.true))
 
-pub returns-then-is_empty-clause-found : goal.returns-then-is_empty-clause-found
-returns-then-is_empty-clause-found c = λ all report.
+pub returns-then-is_end-clause-found : goal.returns-then-is_end-clause-found
+returns-then-is_end-clause-found c = λ all report.
     let told = c.if-is_summary.ensures.yes refl in
     let p = place_at c.loop-line.number c.loop-line.minutes c.loop-line.shown in
     (told_all p c.loop-line.rest.now c.in-Some.line.now c.in-Some.behind.now c.loop-line.turns all told.0 (omega (arith, c.loop-line.invariant.line_room, c.requires)) (c.loop-line.invariant.found all report) c.in-Some.ensures.some told.2).1
@@ -30,14 +30,14 @@ returns-then-is_summary-clause-found c = λ all report.
     let told = c.if-is_summary.ensures.yes refl in
     let p = place_at c.loop-line.number c.loop-line.minutes c.loop-line.shown in
     let last = told_all p c.loop-line.rest.now c.in-Some.line.now c.in-Some.behind.now c.loop-line.turns all told.0 (omega (arith, c.loop-line.invariant.line_room, c.requires)) (c.loop-line.invariant.found all report) c.in-Some.ensures.some told.2 in
-    some_is c.in-Some.behind.now (sym c.is_empty.ensures ∙ c.if-is_empty.false) last.0
+    some_is c.in-Some.behind.now (sym c.is_end.ensures ∙ c.if-is_end.false) last.0
 
 pub returns-then-is_summary-clause-line : goal.returns-then-is_summary-clause-line
 returns-then-is_summary-clause-line c =
     let told = c.if-is_summary.ensures.yes refl in
     let p = place_at c.loop-line.number c.loop-line.minutes c.loop-line.shown in
     bad_behind c.args.bytes.now c.loop-line.rest.now c.in-Some.line.now c.in-Some.behind.now c.loop-line.turns p (c.loop-line.number + 1) told.0 c.loop-line.invariant c.in-Some.ensures.some told.1 told.2 refl
-    (some_is c.in-Some.behind.now (sym c.is_empty.ensures ∙ c.if-is_empty.false))
+    (some_is c.in-Some.behind.now (sym c.is_end.ensures ∙ c.if-is_end.false))
 
 pub returns-in-Err-clause-found : goal.returns-in-Err-clause-found
 returns-in-Err-clause-found c = λ all report.
