@@ -17,7 +17,7 @@ use Rattle.block_machine.specs.declared.turn.Turn.{Turn}
 use Rattle.block_machine.specs.Blocks.{zeros, same_value, blocks_at_start, hardened_with, newest, allowed, is_dirty, may_get, after_get, after_put, after_harden, after_cut}
 use Rattle.block_machine.specs.State.{state_at_start}
 use Rattle.block_machine.specs.History.{entries_of}
-use Rattle.block_machine.specs.Laws.{IsLegal, renews, is_cut, newest_after, last_put, ReadsGiveWhatWasPutLast, HardenedValuesStay, FirstReadSettles, BeginningsAreLegal}
+use Rattle.block_machine.specs.Laws.{OfLegalHistories, IsLegal, renews, is_cut, newest_after, last_put, ReadsGiveWhatWasPutLast, HardenedValuesStay, FirstReadSettles, BeginningsAreLegal}
 use Rattle.block_machine.specs.Turns.{turn_after, turn_lawful}
 use Rattle.block_machine.proofs.Alongs.{along_first, along_second}
 use Rattle.block_machine.proofs.Projection.{legal_blocks}
@@ -151,8 +151,8 @@ module _ (b : ℕ) (s : BlockState) (before : List Entry) (e : Entry) (after : L
   pub part_after : all_along (block_after b) (block_allows b) (block_after b (fold (block_after b) s before) e) after ≡ true
   part_after = (both (block_allows b (fold (block_after b) s before) e) _ part_behind).1
 
-pub reads_give_what_was_put_last : ReadsGiveWhatWasPutLast
-reads_give_what_was_put_last capacity waiting turns before after c b d legal is no_cut =
+pub reads_give_what_was_put_last : OfLegalHistories ReadsGiveWhatWasPutLast
+reads_give_what_was_put_last capacity waiting turns legal before after c b d is no_cut =
     let h = block_along capacity waiting turns b.0 (before ++ Get c b (Data d) ∷ after) legal is in
     let i : Holds (fold (block_after b.0) (hardened_with zeros) before) (last_put b.0 before) =
     kept_along (block_after b.0) (block_allows b.0) (newest_after b.0) (λ e. not (is_cut e)) Holds (keeps_holds b.0)
@@ -273,9 +273,9 @@ read_clean b s v between after c d h q i =
 changed_here : (b : ℕ) (s u : BlockState) → cond (nat_eq b b) u s ≡ u
 changed_here b s u = ap (λ (t : Bool). cond t u s) (eq-eqb b b refl)
 
-pub hardened_values_stay : HardenedValuesStay
+pub hardened_values_stay : OfLegalHistories HardenedValuesStay
 unfolding IsNewest IsClean state_of
-hardened_values_stay capacity waiting turns before between after who c b d legal is q =
+hardened_values_stay capacity waiting turns legal before between after who c b d is q =
     let h = block_along capacity waiting turns b.0 (before ++ Harden who b ∷ (between ++ Get c b (Data d) ∷ after)) legal is in
     let s : BlockState = fold (block_after b.0) (hardened_with zeros) before in
     let rest : List Entry = between ++ Get c b (Data d) ∷ after in
@@ -336,9 +336,9 @@ stays_quiet b s entries h q i =
 got_clean : (s : BlockState) (d : List ℕ) → is_dirty s ≡ false → after_get s (Data d) ≡ hardened_with (Data d)
 got_clean s d e = ap (λ (t : Bool). cond t s (hardened_with (Data d))) e
 
-pub first_read_settles : FirstReadSettles
+pub first_read_settles : OfLegalHistories FirstReadSettles
 unfolding IsClean
-first_read_settles capacity waiting turns before first between after b c1 c2 d1 d2 legal is q1 q2 =
+first_read_settles capacity waiting turns legal before first between after b c1 c2 d1 d2 is q1 q2 =
     let rest : List Entry = between ++ Get c2 b (Data d2) ∷ after in
     let behind : List Entry = first ++ Get c1 b (Data d1) ∷ rest in
     let h = block_along capacity waiting turns b.0 (before ++ Cut ∷ behind) legal is in

@@ -10,7 +10,7 @@ use Rattle.disk_base.specs.declared.command.DataOut.TheVariants.{Nothing, Fill, 
 use Rattle.disk_base.specs.declared.command.Function.{Function}
 use Rattle.sense_data.specs.declared.sense.Sense.{Sense}
 use Rattle.sense_data.specs.Sense.{sense_of}
-use Rattle.sense_data.specs.Attentions.{none_waiting, power_on_waiting}
+use Rattle.sense_data.specs.Attentions.{none_waiting}
 use Rattle.cdb_reader.specs.Replies as replies
 use Rattle.mode_pages.specs.declared.settings.Settings.{Settings}
 use Rattle.platter_model.specs.declared.world.World.TheVariants as world
@@ -23,8 +23,9 @@ use Rattle.block_machine.specs.declared.entry.Entry.TheVariants.{Arrived, Starte
 use Rattle.block_machine.specs.declared.turn.Label.{Label}
 use Rattle.block_machine.specs.declared.turn.Label.TheVariants.{Arrive, Work, Job, Scan, Destage, World}
 use Rattle.block_machine.specs.declared.turn.Turn.{Turn}
+use Rattle.block_machine.specs.Attentions.{attentions_at_start}
 use Rattle.block_machine.specs.State.{State, state_at_start}
-use Rattle.block_machine.specs.History.{legal_from, first_unlawful}
+use Rattle.block_machine.specs.History.{legal, legal_from, first_unlawful}
 
 abbrev pub turn : Label → List Entry → Turn
 turn label entries = record { label = label; ops_from = 0; ops_to = 0; entries = entries }
@@ -152,29 +153,30 @@ recovered c b = fails_at c 1 0x17 0x01 b
 abbrev pub full : ℕ → Entry
 full c = Ended c (record { status = 0x28; sense = None })
 
--- histories of a new drive, and of one that was just switched on
+-- a new drive, and one that has told every initiator that the power came on
 abbrev pub new_drive : State
-new_drive = state_at_start none_waiting
+new_drive = state_at_start attentions_at_start
 
-abbrev pub switched_on : State
-switched_on = state_at_start power_on_waiting
+abbrev pub told_drive : State
+told_drive = state_at_start none_waiting
 
 -- the capacity of the default disk
 abbrev pub disk : ℕ
 disk = 912
 
+-- legal once every initiator was told, and from the start on
 abbrev pub is_legal : List Turn → Bool
-is_legal turns = legal_from disk new_drive turns
+is_legal turns = legal_from disk told_drive turns
 
 abbrev pub is_legal_on : List Turn → Bool
-is_legal_on turns = legal_from disk switched_on turns
+is_legal_on turns = legal disk turns
 
--- the number of the first turn that may not come
+-- the number of the first turn that may not come, of the same two
 abbrev pub stops_at : List Turn → Option ℕ
-stops_at turns = first_unlawful disk new_drive turns
+stops_at turns = first_unlawful disk told_drive turns
 
 abbrev pub stops_on_at : List Turn → Option ℕ
-stops_on_at turns = first_unlawful disk switched_on turns
+stops_on_at turns = first_unlawful disk new_drive turns
 
 -- the power goes off, and comes on again with this outcome
 abbrev pub cut : Turn

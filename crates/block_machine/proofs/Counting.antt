@@ -19,7 +19,7 @@ use Rattle.block_machine.specs.Steps.{entry_after, entries_after, begun, task_ar
 use Rattle.block_machine.specs.Entries.{entry_lawful, is_owed, works_on}
 use Rattle.block_machine.specs.Turns.{named_by, are_aborted, is_answered, arrival_lawful, work_lawful, starts_alone, entries_lawful, tasks_lawful, turn_after}
 use Rattle.block_machine.specs.History.{task_legal_from, turns_after, entries_of}
-use Rattle.block_machine.specs.Laws.{Tally, tally_at_start, tally_after, left_out, is_end_of, CommandsAreAccountedFor, NoneEndsTwice}
+use Rattle.block_machine.specs.Laws.{OfTaskLegalHistories, Tally, tally_at_start, tally_after, left_out, is_end_of, CommandsAreAccountedFor, NoneEndsTwice}
 use Rattle.disk_base.specs.declared.address.Tag.{Tag}
 use Rattle.disk_base.specs.declared.command.Attribute.{Attribute}
 use Rattle.disk_base.specs.declared.command.DataOut.{DataOut}
@@ -533,9 +533,9 @@ not_twice c t one another between after h k d =
     stays_gone c (tally_after t one) between (ap (λ (ns : List ℕ). has c ns) (end_is_gone c t one h) ∙ has_last c t.gone) in
     true_not_false gone (distinct_front then.gone c last).1
 
-pub none_ends_twice : NoneEndsTwice
+pub none_ends_twice : OfTaskLegalHistories NoneEndsTwice
 unfolding distinct below has
-none_ends_twice capacity waiting turns before between after c one another legal is h k =
+none_ends_twice capacity waiting turns legal before between after c one another is h k =
     let start : Good (state_at_start waiting) tally_at_start = record { inside = refl; once = refl; low = refl; gone_once = refl; gone_low = refl; apart = λ x h. refl; sum = refl } in
     let g = turns_good capacity (state_at_start waiting) turns tally_at_start legal start in
     not_twice c (fold tally_after tally_at_start before) one another between after h k

@@ -29,7 +29,7 @@ use Rattle.block_machine.specs.DriveOnly.{has_defect_length}
 use Rattle.block_machine.specs.Deeds.{Done, done, done_by, page_done, names_dirty}
 use Rattle.block_machine.specs.Entries.{is_owed, works_on}
 use Rattle.block_machine.specs.Turns.{task_set_full}
-use Rattle.block_machine.specs.Laws.{got_after, blocks_got, succeeds, AsksToRead, ReadsGetEachBlockOnce}
+use Rattle.block_machine.specs.Laws.{OfTaskLegalHistories, got_after, blocks_got, succeeds, AsksToRead, ReadsGetEachBlockOnce}
 use Rattle.block_machine.proofs.Replies.{when_is, same_succeed, not_same, after_attention}
 use Rattle.block_machine.proofs.OneCommand.{NotBy, OkCases, arriving, working, Owed, owed, until_its_end}
 use Rattle.block_machine.proofs.Booleans.{both, true_not_false}
@@ -205,9 +205,9 @@ end_owed capacity c label s reply (arriving h) k = absurd (not_same reply task_s
 end_owed capacity c label s reply (working h) k =
     owed s c (deed.Ended reply (names_dirty s reply)) (both (works_on label c) _ (both (works_on label c && is_owed label s (Ended c reply)) _ h).0).1
 
-pub reads_get_each_block_once : ReadsGetEachBlockOnce
+pub reads_get_each_block_once : OfTaskLegalHistories ReadsGetEachBlockOnce
 unfolding Read
-reads_get_each_block_once capacity waiting turns first between after c i t a cdb sent reply b n legal is asks success =
+reads_get_each_block_once capacity waiting turns legal first between after c i t a cdb sent reply b n is asks success =
     let end = until_its_end capacity c (read_of cdb sent capacity) sent (got_after c) (Read b n) (λ label s e g h. idle label s e c g h)
     (λ s duty g e f nothing. begins_with capacity s (initiator_of s c) duty (read_of cdb sent capacity) b n g e
     (asks_to_read (read_of cdb sent capacity) capacity s (initiator_of s c) duty.sent b n g asks nothing))

@@ -11,7 +11,7 @@ use Rattle.block_machine.specs.declared.turn.Label.TheVariants.{Arrive, Work, Jo
 use Rattle.block_machine.specs.State.{State, Duty, state_at_start}
 use Rattle.block_machine.specs.Steps.{entry_after, duties_after, duties_done, begun}
 use Rattle.block_machine.specs.Deeds.{Done, done_by, owed_after}
-use Rattle.block_machine.specs.Laws.{SuccessesFollowStarts}
+use Rattle.block_machine.specs.Laws.{OfTaskLegalHistories, SuccessesFollowStarts}
 use Rattle.block_machine.proofs.Alongs.{along_second}
 use Rattle.block_machine.proofs.Stepwise.{Step, Begins, Does, step_after, step_ok, entry_ok, entries_in, steps_of, steps_ok, parted, entries_of_steps, put_there}
 use Rattle.block_machine.proofs.OneCommand.{ok_cases, nothing_after}
@@ -88,8 +88,8 @@ started_unless : (t : Bool) (c : ℕ) (entries : List Entry) → list_any (start
 started_unless true c entries h never = started_at_one c entries h
 started_unless false c entries h never = absurd (never h)
 
-pub successes_follow_starts : SuccessesFollowStarts
-successes_follow_starts capacity waiting turns first between after c i t a cdb sent reply legal is success =
+pub successes_follow_starts : OfTaskLegalHistories SuccessesFollowStarts
+successes_follow_starts capacity waiting turns legal first between after c i t a cdb sent reply is success =
     let start : State = state_at_start waiting in
     let arrival : Entry = Arrived c i t a cdb sent in
     let p = parted (steps_of turns) first arrival (between ++ Ended c reply ∷ after) (entries_of_steps turns ∙ is) in

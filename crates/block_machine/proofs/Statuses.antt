@@ -38,7 +38,7 @@ use Rattle.block_machine.specs.Plans.{is_medium, refusing, answering, answering_
 use Rattle.block_machine.specs.Deeds.{Done, done_by, names_dirty}
 use Rattle.block_machine.specs.Entries.{is_owed, works_on}
 use Rattle.block_machine.specs.Turns.{task_set_full}
-use Rattle.block_machine.specs.Laws.{is_status, EndsHaveTheirStatus}
+use Rattle.block_machine.specs.Laws.{OfTaskLegalHistories, is_status, EndsHaveTheirStatus}
 use Rattle.block_machine.proofs.Alongs.{along_second}
 use Rattle.block_machine.proofs.Replies.{when_is}
 use Rattle.block_machine.proofs.Stepwise.{Step, Begins, Does, step_after, step_ok, entry_ok, steps_of, steps_ok, parted, entries_of_steps}
@@ -282,9 +282,9 @@ end_status capacity c label s reply (working h) f =
     let o = owed s c (deed.Ended reply (names_dirty s reply)) (both (works_on label c) _ (both (works_on label c && is_owed label s (Ended c reply)) _ h).0).1 in
     owed_status o.before o.after reply (names_dirty s reply) o.follows (subst (λ (p : Option Plan). fits p ≡ true) o.owes (f c))
 
-pub ends_have_their_status : EndsHaveTheirStatus
+pub ends_have_their_status : OfTaskLegalHistories EndsHaveTheirStatus
 unfolding AllFit
-ends_have_their_status capacity waiting turns before after c reply legal is =
+ends_have_their_status capacity waiting turns legal before after c reply is =
     let start : State = state_at_start waiting in
     let p = parted (steps_of turns) before (Ended c reply) after (entries_of_steps turns ∙ is) in
     let lawful : all_along (step_after capacity) (step_ok capacity) start (p.before ++ Does p.label (Ended c reply) ∷ p.behind) ≡ true =

@@ -28,7 +28,7 @@ use Rattle.block_machine.specs.Turns.{turn_after, tasks_lawful, blocks_lawful}
 use Rattle.block_machine.specs.History.{entries_of}
 use Rattle.block_machine.specs.State.{State, Duty, initiator_of, state_at_start}
 use Rattle.block_machine.specs.Plans.{first_plan, plan_unless_refused, refusing}
-use Rattle.block_machine.specs.Laws.{Mark, Wrote, Forced, Found, marks_after, marks_of, covers, succeeds, AsksToSync, SyncsFindEachBlockHardened}
+use Rattle.block_machine.specs.Laws.{OfLegalHistories, Mark, Wrote, Forced, Found, marks_after, marks_of, covers, succeeds, AsksToSync, SyncsFindEachBlockHardened}
 use Rattle.block_machine.proofs.Alongs.{along_left, along_second, fold_both}
 use Rattle.block_machine.proofs.OneBlock.{one_after}
 use Rattle.block_machine.proofs.BlockLaws.{dirty_newest}
@@ -252,9 +252,9 @@ still_before : (first queued part now : List Entry) (arrival start : Entry)
     → first ++ arrival ∷ (queued ++ start ∷ (part ++ now)) ≡ (first ++ arrival ∷ (queued ++ start ∷ part)) ++ now
 still_before first queued part now arrival start = simp append_assoc
 
-pub syncs_find_each_block_hardened : SyncsFindEachBlockHardened
+pub syncs_find_each_block_hardened : OfLegalHistories SyncsFindEachBlockHardened
 unfolding Sync Covered
-syncs_find_each_block_hardened capacity waiting turns first queued between after c i t a cdb sent reply b n x legal is asks success low high =
+syncs_find_each_block_hardened capacity waiting turns legal first queued between after c i t a cdb sent reply b n x is asks success low high =
     let start : State = state_at_start waiting in
     let arrival : Entry = Arrived c i t a cdb sent in
     let request : Result Request Sense = read_of cdb sent capacity in

@@ -9,7 +9,7 @@ use Rattle.block_machine.specs.declared.array.BlockState.{BlockState}
 use Rattle.block_machine.specs.declared.entry.Entry.{Entry}
 use Rattle.block_machine.specs.declared.entry.Entry.TheVariants.{Get, Put, Harden, GiveUp, Cut}
 use Rattle.block_machine.specs.Blocks.{zeros, same_value, hardened_with, newest, allowed, is_dirty, may_get, after_get, after_put, after_harden}
-use Rattle.block_machine.specs.Laws.{last_alone, values_after, values_since_hardened, ReadsGiveHardenedOrNewer}
+use Rattle.block_machine.specs.Laws.{OfLegalHistories, last_alone, values_after, values_since_hardened, ReadsGiveHardenedOrNewer}
 use Rattle.block_machine.proofs.OneBlock.{block_after, block_allows, kept_along}
 use Rattle.block_machine.proofs.BlockLaws.{last_of, same_is, dirty_newest, block_along, allowed_here, all_pass, part_before, part_here}
 use Rattle.block_machine.proofs.Booleans.{or_assoc, or_false, or_left, or_right}
@@ -135,8 +135,8 @@ given_found false s d e h =
     ap (λ (t : Bool). cond t (option_map_or (same_value (Data d)) (newest s) false) (among d s.base)) e in
     of_base s d (sym is ∙ h)
 
-pub reads_give_hardened_or_newer : ReadsGiveHardenedOrNewer
-reads_give_hardened_or_newer capacity waiting turns before after c b d legal is =
+pub reads_give_hardened_or_newer : OfLegalHistories ReadsGiveHardenedOrNewer
+reads_give_hardened_or_newer capacity waiting turns legal before after c b d is =
     let h = block_along capacity waiting turns b.0 (before ++ Get c b (Data d) ∷ after) legal is in
     let s : BlockState = fold (block_after b.0) (hardened_with zeros) before in
     let i : Within s (values_since_hardened b.0 before) =

@@ -15,7 +15,7 @@ use Rattle.block_machine.specs.declared.turn.Label.TheVariants.{World}
 use Rattle.block_machine.specs.declared.turn.Turn.{Turn}
 use Rattle.platter_model.specs.declared.world.World.TheVariants as world
 use Rattle.block_machine.specs.History.{legal_from}
-use Rattle.block_machine.proofs.Building.{turn, lba, read, write, sync, forced_write, reassign, blocks_named, test_unit_ready, comes_as, comes, comes_full, sends, asks, starts, at_once, works, moves, get, get_bad, put, hard, hard_by_drive, pass, lose, good, fails, fails_at, cut, power, scans, scans_light, destages, told, ready, reads, reads_bad, writes, forces, tries, selects, recovery_page, new_drive, is_legal, is_legal_on}
+use Rattle.block_machine.proofs.Building.{turn, lba, read, write, sync, forced_write, reassign, blocks_named, test_unit_ready, comes_as, comes, comes_full, sends, asks, starts, at_once, works, moves, get, get_bad, put, hard, hard_by_drive, pass, lose, good, fails, fails_at, cut, power, scans, scans_light, destages, told, ready, reads, reads_bad, writes, forces, tries, selects, recovery_page, told_drive, is_legal, is_legal_on}
 
 -- nothing came
 nothing : is_legal [] ≡ true
@@ -49,10 +49,10 @@ unfolding operation_of
 system_start = refl
 
 -- MODE SENSE (10), MODE SELECT (10) that turns the write cache off, and who is told
-write_cache_off : is_legal (comes 1 1 (0x5A ∷ 0x08 ∷ 0x08 ∷ 0 ∷ 0 ∷ 0 ∷ 0 ∷ 0 ∷ 0xFF ∷ 0 ∷ [])
-    ∷ at_once 1 (Page 1 (0x00 ∷ 0x1A ∷ 0x00 ∷ 0x10 ∷ 0 ∷ 0 ∷ 0 ∷ 0 ∷ 0x08 ∷ 0x12 ∷ 0x04 ∷ replicate 17 0) ∷ good 1 ∷ [])
-    ∷ selects 2 (0x08 ∷ 0x12 ∷ replicate 18 0) (record default_settings { wce = false })
-    ++ told 3 2 0x2A 0x01 ++ ready 4 1) ≡ true
+write_cache_off : is_legal_on (told 1 1 0x29 0x01 ++ told 2 2 0x29 0x01 ++ comes 3 1 (0x5A ∷ 0x08 ∷ 0x08 ∷ 0 ∷ 0 ∷ 0 ∷ 0 ∷ 0 ∷ 0xFF ∷ 0 ∷ [])
+    ∷ at_once 3 (Page 3 (0x00 ∷ 0x1A ∷ 0x00 ∷ 0x10 ∷ 0 ∷ 0 ∷ 0 ∷ 0 ∷ 0x08 ∷ 0x12 ∷ 0x04 ∷ replicate 17 0) ∷ good 3 ∷ [])
+    ∷ selects 4 (0x08 ∷ 0x12 ∷ replicate 18 0) (record default_settings { wce = false })
+    ++ told 5 2 0x2A 0x01 ++ ready 6 1) ≡ true
 unfolding operation_of
 write_cache_off = refl
 
@@ -66,26 +66,26 @@ ready_replies c zero = []
 ready_replies c (suc n) = at_once c (good c ∷ []) ∷ ready_replies (c + 1) n
 
 -- 64 commands, the first ORDERED; for a 65th there is no room
-task_set_full : is_legal (comes_as Ordered 1 1 test_unit_ready Nothing ∷ ready_arrivals 2 63
-    ++ comes_full 65 1 test_unit_ready ∷ ready_replies 1 64) ≡ true
+task_set_full : is_legal_on (told 1 1 0x29 0x01 ++ comes_as Ordered 2 1 test_unit_ready Nothing ∷ ready_arrivals 3 63
+    ++ comes_full 66 1 test_unit_ready ∷ ready_replies 2 64) ≡ true
 unfolding operation_of ready_arrivals ready_replies
 task_set_full = refl
 
 -- two stages find nothing, the third finds the block; the next read takes it from the cache
-found_late : is_legal (comes 1 1 (read 0 1) ∷ starts 1 ∷ tries 1 2 ++ works 1 (get 1 0 0 ∷ good 1 ∷ []) ∷ reads 2 0 0) ≡ true
+found_late : is_legal_on (told 1 1 0x29 0x01 ++ comes 2 1 (read 0 1) ∷ starts 2 ∷ tries 2 2 ++ works 2 (get 2 0 0 ∷ good 2 ∷ []) ∷ reads 3 0 0) ≡ true
 unfolding operation_of
 found_late = refl
 
 -- the same with PER 1: RECOVERED DATA WITH RETRIES at block 0
-found_late_and_told : is_legal (selects 1 (recovery_page 0xC4) (record default_settings { per = true })
-    ++ comes 2 1 (read 0 1) ∷ starts 2 ∷ tries 2 2 ++ works 2 (get 2 0 0 ∷ fails_at 2 1 0x17 0x01 0 ∷ []) ∷ []) ≡ true
+found_late_and_told : is_legal_on (told 1 1 0x29 0x01 ++ selects 2 (recovery_page 0xC4) (record default_settings { per = true })
+    ++ comes 3 1 (read 0 1) ∷ starts 3 ∷ tries 3 2 ++ works 3 (get 3 0 0 ∷ fails_at 3 1 0x17 0x01 0 ∷ []) ∷ []) ≡ true
 unfolding operation_of
 found_late_and_told = refl
 
 -- a block that no stage finds is given up by REASSIGN BLOCKS, reads bad from then on, and is written again
-given_up : is_legal (comes 1 1 (read 0 1) ∷ starts 1 ∷ tries 1 9 ++ works 1 (get_bad 1 0 ∷ fails_at 1 3 0x11 0x00 0 ∷ [])
-    ∷ sends 2 1 reassign (blocks_named (0 ∷ [])) ∷ starts 2 ∷ tries 2 10 ++ moves 1 [] ∷ moves 1 [] ∷ moves 1 (lose 0 ∷ hard 2 0 ∷ [])
-    ∷ works 2 (good 2 ∷ []) ∷ reads_bad 3 0 ++ forces 4 0 0x11 ++ reads 5 0 0x11) ≡ true
+given_up : is_legal_on (told 1 1 0x29 0x01 ++ comes 2 1 (read 0 1) ∷ starts 2 ∷ tries 2 9 ++ works 2 (get_bad 2 0 ∷ fails_at 2 3 0x11 0x00 0 ∷ [])
+    ∷ sends 3 1 reassign (blocks_named (0 ∷ [])) ∷ starts 3 ∷ tries 3 10 ++ moves 1 [] ∷ moves 1 [] ∷ moves 1 (lose 0 ∷ hard 3 0 ∷ [])
+    ∷ works 3 (good 3 ∷ []) ∷ reads_bad 4 0 ++ forces 5 0 0x11 ++ reads 6 0 0x11) ≡ true
 unfolding operation_of
 given_up = refl
 
@@ -117,7 +117,7 @@ unfolding operation_of
 cut_while_recovering = refl
 
 -- without spares REASSIGN BLOCKS names the block, and a recovered read recommends reassignment
-no_spares : legal_from 48 new_drive (sends 1 1 reassign (blocks_named (3 ∷ [])) ∷ starts 1 ∷ works 1 (Ended 1 (no_spare 3) ∷ [])
+no_spares : legal_from 48 told_drive (sends 1 1 reassign (blocks_named (3 ∷ [])) ∷ starts 1 ∷ works 1 (Ended 1 (no_spare 3) ∷ [])
     ∷ selects 2 (recovery_page 0xC4) (record default_settings { per = true })
     ++ comes 3 1 (read 3 1) ∷ starts 3 ∷ tries 3 8 ++ works 3 (get 3 3 0 ∷ fails_at 3 1 0x18 0x05 3 ∷ []) ∷ []) ≡ true
 unfolding operation_of
@@ -136,7 +136,7 @@ unfolding operation_of
 refused_write = refl
 
 -- the scan of eight blocks passes a dirty one over; in the next pass it finds that with effort and moves it; LOG SENSE tells
-scan_moves : legal_from 8 new_drive (writes 1 5 0x11 ++ scans_light 0 5 ++ scans 5 Skipped [] ∷ scans_light 6 2
+scan_moves : legal_from 8 told_drive (writes 1 5 0x11 ++ scans_light 0 5 ++ scans 5 Skipped [] ∷ scans_light 6 2
     ++ comes 2 1 (sync 0 0) ∷ starts 2 ∷ works 2 (pass 2 0 5 ∷ hard 2 5 ∷ []) ∷ works 2 (pass 2 6 8 ∷ good 2 ∷ [])
     ∷ scans_light 0 5 ++ scans 5 Heavy [] ∷ moves 1 [] ∷ moves 1 [] ∷ moves 1 (Logged (record { minutes = 0; status = 2; key = 1; asc = 0x18; ascq = 0x02; b = lba 5 }) ∷ [])
     ∷ comes 3 1 (0x4D ∷ 0 ∷ 0x15 ∷ 0 ∷ 0 ∷ 0 ∷ 0 ∷ 0 ∷ 0xFF ∷ 0 ∷ [])

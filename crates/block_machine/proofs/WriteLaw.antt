@@ -30,7 +30,7 @@ use Rattle.block_machine.specs.State.{State, Duty, initiator_of}
 use Rattle.block_machine.specs.Plans.{first_plan, plan_unless_refused, refusing}
 use Rattle.block_machine.specs.DriveOnly.{has_defect_length}
 use Rattle.block_machine.specs.Deeds.{done, done_by, page_done}
-use Rattle.block_machine.specs.Laws.{Mark, Wrote, Forced, Found, marks_after, marks_of, written_through, is_forced, succeeds, AsksToForce, ForcedWritesAreHardened}
+use Rattle.block_machine.specs.Laws.{OfTaskLegalHistories, Mark, Wrote, Forced, Found, marks_after, marks_of, written_through, is_forced, succeeds, AsksToForce, ForcedWritesAreHardened}
 use Rattle.block_machine.proofs.Replies.{when_is, same_succeed, not_same, after_attention}
 use Rattle.block_machine.proofs.ReadLaw.{done_is, write_error_fails, end_owed}
 use Rattle.block_machine.proofs.OneCommand.{NotBy}
@@ -273,9 +273,9 @@ written_at_end b n sent Changing after reply dirty g h k i = absurd i
 written_at_end b n sent (Syncing s) after reply dirty g h k i = absurd i
 written_at_end b n sent (Moving m) after reply dirty g h k i = absurd i
 
-pub forced_writes_are_hardened : ForcedWritesAreHardened
+pub forced_writes_are_hardened : OfTaskLegalHistories ForcedWritesAreHardened
 unfolding Write
-forced_writes_are_hardened capacity waiting turns first queued between after c i t a cdb sent reply b n legal is asks success =
+forced_writes_are_hardened capacity waiting turns legal first queued between after c i t a cdb sent reply b n is asks success =
     let request : Result Request Sense = read_of cdb sent capacity in
     let before : List Entry = first ++ Arrived c i t a cdb sent ∷ queued in
     let end = from_its_start capacity c request sent (marks_after c) (Write b n sent) (λ label s e g h. unmarked label s e c g h)

@@ -3,13 +3,13 @@ use Rattle.std.specs.Prelude.{ℕ, ◌==◌, ◌&&◌, ◌||◌, Bool, true, not
 use Rattle.std.specs.List.{list_any}
 use Rattle.sense_data.specs.declared.attention.Attention.{Attention}
 use Rattle.sense_data.specs.declared.sense.Sense.{Sense}
-use Rattle.sense_data.specs.Attentions.{Waiting, attention, raised, first_of, none_waiting}
+use Rattle.sense_data.specs.Attentions.{Waiting, attention, raised, first_of, power_on_waiting}
 use Rattle.task_set.specs.declared.member.Member.{Member}
 use Rattle.task_set.specs.Members.{is_of}
 
--- what waits when a drive is made: nothing for anyone, until several initiators are served
+-- what waits when a drive is made: the power came on, for all eight (SAM-4, unit attention condition)
 abbrev pub attentions_at_start : Waiting
-attentions_at_start = none_waiting
+attentions_at_start = power_on_waiting
 
 abbrev pub initiators : List ℕ
 initiators = 1 ∷ 2 ∷ 3 ∷ 4 ∷ 5 ∷ 6 ∷ 7 ∷ 8 ∷ []

@@ -33,6 +33,10 @@ use Rattle.block_machine.specs.History.{legal_from, task_legal_from, turns_after
 abbrev pub IsLegal : ℕ → Waiting → List Turn → Type 0
 IsLegal capacity waiting turns = IsTrue (legal_from capacity (state_at_start waiting) turns)
 
+-- a fact holds of each legal history, of a disk of any capacity
+abbrev pub OfLegalHistories : (ℕ → List Turn → Type 0) → Type 0
+OfLegalHistories Fact = (capacity : ℕ) (waiting : Waiting) (turns : List Turn) → IsLegal capacity waiting turns → Fact capacity turns
+
 -- an entry gives a block something newer than it has on the medium: a value, or that it is given up
 abbrev pub renews : ℕ → Entry → Bool
 renews b (Put c a v) = b == a.0
@@ -75,32 +79,31 @@ NoneRenews b entries = IsTrue (list_all (λ e. not (renews b e)) entries)
 
 -- a law: without a power cut, a read that isn't bad gives the value that was put last, or zeros; so a block that was given up
 -- since is bad
-abbrev pub ReadsGiveWhatWasPutLast : Type 0
-ReadsGiveWhatWasPutLast = (capacity : ℕ) (waiting : Waiting) (turns : List Turn) (before after : List Entry) (c : ℕ) (b : Lba) (d : List ℕ)
-    → IsLegal capacity waiting turns → entries_of turns ≡ before ++ Get c b (Data d) ∷ after
+abbrev pub ReadsGiveWhatWasPutLast : ℕ → List Turn → Type 0
+ReadsGiveWhatWasPutLast capacity turns = (before after : List Entry) (c : ℕ) (b : Lba) (d : List ℕ)
+    → entries_of turns ≡ before ++ Get c b (Data d) ∷ after
     → IsTrue (list_all (λ e. not (is_cut e)) before)
     → last_put b.0 before ≡ Data d
 
 -- a law: once hardened, a value is what each later read gives that isn't bad, over any number of power cuts, until a newer one
 -- is put or the block is given up
-abbrev pub HardenedValuesStay : Type 0
-HardenedValuesStay = (capacity : ℕ) (waiting : Waiting) (turns : List Turn) (before between after : List Entry) (who : Who) (c : ℕ) (b : Lba) (d : List ℕ)
-    → IsLegal capacity waiting turns → entries_of turns ≡ before ++ Harden who b ∷ (between ++ Get c b (Data d) ∷ after)
+abbrev pub HardenedValuesStay : ℕ → List Turn → Type 0
+HardenedValuesStay capacity turns = (before between after : List Entry) (who : Who) (c : ℕ) (b : Lba) (d : List ℕ)
+    → entries_of turns ≡ before ++ Harden who b ∷ (between ++ Get c b (Data d) ∷ after)
     → NoneRenews b.0 between
     → last_put b.0 before ≡ Data d
 
 -- a law: a read that isn't bad gives the value that was hardened last, zeros where none was, or one that was put since; also
 -- after power cuts
-abbrev pub ReadsGiveHardenedOrNewer : Type 0
-ReadsGiveHardenedOrNewer = (capacity : ℕ) (waiting : Waiting) (turns : List Turn) (before after : List Entry) (c : ℕ) (b : Lba) (d : List ℕ)
-    → IsLegal capacity waiting turns → entries_of turns ≡ before ++ Get c b (Data d) ∷ after
+abbrev pub ReadsGiveHardenedOrNewer : ℕ → List Turn → Type 0
+ReadsGiveHardenedOrNewer capacity turns = (before after : List Entry) (c : ℕ) (b : Lba) (d : List ℕ)
+    → entries_of turns ≡ before ++ Get c b (Data d) ∷ after
     → IsTrue (list_any (same_value (Data d)) (values_since_hardened b.0 before))
 
 -- a law: after a power cut the first read that isn't bad settles what the block has: each later one gives the same or is bad,
 -- over further cuts, until a newer value is put or the block is given up
-abbrev pub FirstReadSettles : Type 0
-FirstReadSettles = (capacity : ℕ) (waiting : Waiting) (turns : List Turn) (before first between after : List Entry) (b : Lba) (c1 c2 : ℕ) (d1 d2 : List ℕ)
-    → IsLegal capacity waiting turns
+abbrev pub FirstReadSettles : ℕ → List Turn → Type 0
+FirstReadSettles capacity turns = (before first between after : List Entry) (b : Lba) (c1 c2 : ℕ) (d1 d2 : List ℕ)
     → entries_of turns ≡ before ++ Cut ∷ (first ++ Get c1 b (Data d1) ∷ (between ++ Get c2 b (Data d2) ∷ after))
     → NoneRenews b.0 first → NoneRenews b.0 between
     → d1 ≡ d2
@@ -112,6 +115,10 @@ BeginningsAreLegal = (capacity : ℕ) (waiting : Waiting) (turns more : List Tur
 -- turns are a legal history as far as commands go
 abbrev pub IsTaskLegal : ℕ → Waiting → List Turn → Type 0
 IsTaskLegal capacity waiting turns = IsTrue (task_legal_from capacity (state_at_start waiting) turns)
+
+-- a fact holds of each history that is legal as far as commands go
+abbrev pub OfTaskLegalHistories : (ℕ → List Turn → Type 0) → Type 0
+OfTaskLegalHistories Fact = (capacity : ℕ) (waiting : Waiting) (turns : List Turn) → IsTaskLegal capacity waiting turns → Fact capacity turns
 
 -- the blocks whose data a command got, after an entry
 abbrev pub got_after : ℕ → List ℕ → Entry → List ℕ
@@ -133,10 +140,9 @@ AsksToRead (Ok (request.Verify from count)) b n = (from ≡ b) × (count ≡ n)
 AsksToRead other b n = ⊥
 
 -- a law: a read or a verification that ends GOOD, or with a recovered error, got each block of its range once, in order
-abbrev pub ReadsGetEachBlockOnce : Type 0
-ReadsGetEachBlockOnce = (capacity : ℕ) (waiting : Waiting) (turns : List Turn) (first between after : List Entry) (c i : ℕ) (t : Tag) (a : Attribute)
+abbrev pub ReadsGetEachBlockOnce : ℕ → List Turn → Type 0
+ReadsGetEachBlockOnce capacity turns = (first between after : List Entry) (c i : ℕ) (t : Tag) (a : Attribute)
     (cdb : List ℕ) (sent : DataOut) (reply : Reply) (b n : ℕ)
-    → IsTaskLegal capacity waiting turns
     → entries_of turns ≡ first ++ Arrived c i t a cdb sent ∷ (between ++ Ended c reply ∷ after)
     → AsksToRead (read_of cdb sent capacity) b n → IsTrue (succeeds reply)
     → blocks_got c between ≡ range_with_len b n
@@ -180,10 +186,9 @@ AsksToForce other settings b n = ⊥
 -- a law: a write with FUA, one that starts while the write cache is off, or a WRITE AND VERIFY, that ends GOOD or with a recovered
 -- error, has from its arrival on put each of its blocks, once, in order and with its data, and hardened each before it put the next;
 -- what it did besides was to harden before it verified
-abbrev pub ForcedWritesAreHardened : Type 0
-ForcedWritesAreHardened = (capacity : ℕ) (waiting : Waiting) (turns : List Turn) (first queued between after : List Entry) (c i : ℕ) (t : Tag)
+abbrev pub ForcedWritesAreHardened : ℕ → List Turn → Type 0
+ForcedWritesAreHardened capacity turns = (first queued between after : List Entry) (c i : ℕ) (t : Tag)
     (a : Attribute) (cdb : List ℕ) (sent : DataOut) (reply : Reply) (b n : ℕ)
-    → IsTaskLegal capacity waiting turns
     → entries_of turns ≡ first ++ Arrived c i t a cdb sent ∷ (queued ++ Started c ∷ (between ++ Ended c reply ∷ after))
     → AsksToForce (read_of cdb sent capacity) (settings_left (first ++ Arrived c i t a cdb sent ∷ queued)) b n → IsTrue (succeeds reply)
     → (rest : List Mark) × (marks_of c (queued ++ Started c ∷ between) ≡ written_through b sent n ++ rest) × IsTrue (list_all is_forced rest)
@@ -201,10 +206,9 @@ AsksToSync other b n = ⊥
 
 -- a law: when a sync ends GOOD, each block of its range was, at some moment since its start, without a value that isn't hardened:
 -- the entries between part at that moment
-abbrev pub SyncsFindEachBlockHardened : Type 0
-SyncsFindEachBlockHardened = (capacity : ℕ) (waiting : Waiting) (turns : List Turn) (first queued between after : List Entry) (c i : ℕ) (t : Tag)
+abbrev pub SyncsFindEachBlockHardened : ℕ → List Turn → Type 0
+SyncsFindEachBlockHardened capacity turns = (first queued between after : List Entry) (c i : ℕ) (t : Tag)
     (a : Attribute) (cdb : List ℕ) (sent : DataOut) (reply : Reply) (b n x : ℕ)
-    → IsLegal capacity waiting turns
     → entries_of turns ≡ first ++ Arrived c i t a cdb sent ∷ (queued ++ Started c ∷ (between ++ Ended c reply ∷ after))
     → AsksToSync (read_of cdb sent capacity) b n → IsTrue (succeeds reply)
     → b ≤ x → x < b + n
@@ -250,9 +254,9 @@ abbrev pub is_status : ℕ → Bool
 is_status status = status == 0x00 || status == 0x02 || status == 0x28
 
 -- a law: each end has one of these statuses
-abbrev pub EndsHaveTheirStatus : Type 0
-EndsHaveTheirStatus = (capacity : ℕ) (waiting : Waiting) (turns : List Turn) (before after : List Entry) (c : ℕ) (reply : Reply)
-    → IsTaskLegal capacity waiting turns → entries_of turns ≡ before ++ Ended c reply ∷ after
+abbrev pub EndsHaveTheirStatus : ℕ → List Turn → Type 0
+EndsHaveTheirStatus capacity turns = (before after : List Entry) (c : ℕ) (reply : Reply)
+    → entries_of turns ≡ before ++ Ended c reply ∷ after
     → IsTrue (is_status reply.status)
 
 -- an entry ends a command: with a reply, or by a function
@@ -262,16 +266,15 @@ is_end_of c (Aborted d) = d == c
 is_end_of c other = false
 
 -- a law: no command has two ends, of either kind
-abbrev pub NoneEndsTwice : Type 0
-NoneEndsTwice = (capacity : ℕ) (waiting : Waiting) (turns : List Turn) (before between after : List Entry) (c : ℕ) (one another : Entry)
-    → IsTaskLegal capacity waiting turns → entries_of turns ≡ before ++ one ∷ (between ++ another ∷ after)
+abbrev pub NoneEndsTwice : ℕ → List Turn → Type 0
+NoneEndsTwice capacity turns = (before between after : List Entry) (c : ℕ) (one another : Entry)
+    → entries_of turns ≡ before ++ one ∷ (between ++ another ∷ after)
     → IsTrue (is_end_of c one) → IsTrue (is_end_of c another) → ⊥
 
 -- a law: a command that ends with success started before
-abbrev pub SuccessesFollowStarts : Type 0
-SuccessesFollowStarts = (capacity : ℕ) (waiting : Waiting) (turns : List Turn) (first between after : List Entry) (c i : ℕ) (t : Tag) (a : Attribute)
+abbrev pub SuccessesFollowStarts : ℕ → List Turn → Type 0
+SuccessesFollowStarts capacity turns = (first between after : List Entry) (c i : ℕ) (t : Tag) (a : Attribute)
     (cdb : List ℕ) (sent : DataOut) (reply : Reply)
-    → IsTaskLegal capacity waiting turns
     → entries_of turns ≡ first ++ Arrived c i t a cdb sent ∷ (between ++ Ended c reply ∷ after)
     → IsTrue (succeeds reply)
     → (queued rest : List Entry) × (between ≡ queued ++ Started c ∷ rest)

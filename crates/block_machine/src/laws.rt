@@ -1,29 +1,29 @@
 //! Laws on legal histories: each is the clause of a function that does nothing.
 
-ghost use Rattle.block_machine.specs.Laws.{ReadsGiveWhatWasPutLast, HardenedValuesStay, ReadsGiveHardenedOrNewer, FirstReadSettles, BeginningsAreLegal, ReadsGetEachBlockOnce, ForcedWritesAreHardened, SyncsFindEachBlockHardened, CommandsAreAccountedFor, EndsHaveTheirStatus, NoneEndsTwice, SuccessesFollowStarts};
+ghost use Rattle.block_machine.specs.Laws.{OfLegalHistories, OfTaskLegalHistories, ReadsGiveWhatWasPutLast, HardenedValuesStay, ReadsGiveHardenedOrNewer, FirstReadSettles, BeginningsAreLegal, ReadsGetEachBlockOnce, ForcedWritesAreHardened, SyncsFindEachBlockHardened, CommandsAreAccountedFor, EndsHaveTheirStatus, NoneEndsTwice, SuccessesFollowStarts};
 
 /// Without a power cut, a read that isn't bad gives the value that was put last, or zeros. So a block that was given up
 /// since is bad.
 pub fn reads_give_what_was_put_last()
-    ensures { ReadsGiveWhatWasPutLast }
+    ensures { OfLegalHistories ReadsGiveWhatWasPutLast }
 {}
 
 /// Once hardened, a value is what each later read gives that isn't bad, over any number of power cuts, until a newer
 /// one is put or the block is given up.
 pub fn hardened_values_stay()
-    ensures { HardenedValuesStay }
+    ensures { OfLegalHistories HardenedValuesStay }
 {}
 
 /// A read that isn't bad gives the value that was hardened last, zeros where none was, or one that was put since; also
 /// after power cuts.
 pub fn reads_give_hardened_or_newer()
-    ensures { ReadsGiveHardenedOrNewer }
+    ensures { OfLegalHistories ReadsGiveHardenedOrNewer }
 {}
 
 /// After a power cut the first read that isn't bad settles what the block has: each later one gives the same or is bad,
 /// until a newer value is put or the block is given up.
 pub fn first_read_settles()
-    ensures { FirstReadSettles }
+    ensures { OfLegalHistories FirstReadSettles }
 {}
 
 /// The beginnings of a legal history are legal.
@@ -33,25 +33,25 @@ pub fn beginnings_are_legal()
 
 /// A read or a verification that ends GOOD, or with a recovered error, got each block of its range once, in order.
 pub fn reads_get_each_block_once()
-    ensures { ReadsGetEachBlockOnce }
+    ensures { OfTaskLegalHistories ReadsGetEachBlockOnce }
 {}
 
 /// A write with FUA, one that starts while the write cache is off, or a WRITE AND VERIFY, that ends GOOD or with a recovered
 /// error has put each of its blocks, once, in order and with its data, and hardened each before it put the next.
 pub fn forced_writes_are_hardened()
-    ensures { ForcedWritesAreHardened }
+    ensures { OfTaskLegalHistories ForcedWritesAreHardened }
 {}
 
 /// When a sync ends GOOD, each block of its range was, at some moment since its start, without a value that isn't hardened.
 pub fn syncs_find_each_block_hardened()
-    ensures { SyncsFindEachBlockHardened }
+    ensures { OfLegalHistories SyncsFindEachBlockHardened }
 {}
 
 /// The commands that came are those that ended, were aborted, were cut off, and are still in. Each end is GOOD, CHECK
 /// CONDITION or TASK SET FULL; none has two ends, of which one may be an abort; and one that ends with success started.
 pub fn commands_are_accounted_for()
     ensures sum { CommandsAreAccountedFor }
-    ensures statuses { EndsHaveTheirStatus }
-    ensures once { NoneEndsTwice }
-    ensures started { SuccessesFollowStarts }
+    ensures statuses { OfTaskLegalHistories EndsHaveTheirStatus }
+    ensures once { OfTaskLegalHistories NoneEndsTwice }
+    ensures started { OfTaskLegalHistories SuccessesFollowStarts }
 {}

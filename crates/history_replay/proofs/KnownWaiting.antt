@@ -13,7 +13,7 @@ use Rattle.block_machine.specs.declared.entry.Entry.TheVariants.{Started, Asked,
 use Rattle.block_machine.specs.declared.turn.Label.{Label}
 use Rattle.block_machine.specs.declared.turn.Label.TheVariants.{Work}
 use Rattle.block_machine.proofs.Booleans.{and_both}
-use Rattle.block_machine.specs.Attentions.{initiators}
+use Rattle.block_machine.specs.Attentions.{attentions_at_start, initiators}
 use Rattle.block_machine.specs.State.{State, initiator_of}
 use Rattle.block_machine.specs.Steps.{waiting_after}
 use Rattle.history_replay.specs.Warning.{AreKnown, HasRoom, KnownWait, known_attentions}
@@ -76,13 +76,17 @@ known-all zero j v known = (refl, refl)
 known-all (suc n) zero v known = known
 known-all (suc n) (suc j) v known = known-all n j v known
 
+-- what waits when a drive is made is known
+pub known_at_start : KnownWait attentions_at_start
+known_at_start i = known-all 8 (i - 1) (attention 0x29 0x01 ∷ []) (refl, refl)
+
 -- an entry adds none but known ones
 pub known_after : (label : Label) (s : State) (e : Entry) → KnownWait s.waiting → KnownWait (waiting_after label s e)
 known_after label s (Started c) known = known-if _ _ s.waiting (known-taken s.waiting _ known) known
 known_after label s (Asked i Clear) known = known-where (λ j. not (j == i) && list_any (is_of j) s.set) (attention 0x2F 0x00) initiators s.waiting refl known
 known_after label s (Asked i Reset) known = known-where (λ (j : ℕ). true) (attention 0x29 0x03) initiators s.waiting refl known
 known_after (Work c) s (Mode settings) known = known-where (λ j. not (j == initiator_of s c)) (attention 0x2A 0x01) initiators s.waiting refl known
-known_after label s (PoweredOn outcome) known = λ i. known-all 8 (i - 1) (attention 0x29 0x01 ∷ []) (refl, refl)
+known_after label s (PoweredOn outcome) known = known_at_start
 known_after label s other known = known
 
 pub known_when : (label : Label) (s : State) (e : Entry) (waiting : Waiting) → waiting ≡ waiting_after label s e → KnownWait s.waiting → KnownWait waiting

@@ -1,7 +1,7 @@
 //! A command that is in.
 ghost use Rattle.std.specs.Prelude.{◌≡◌, ◌<◌, ◌≤◌, ℕ, Some, IfOk, IsTrue, slice_index};
 ghost use Rattle.std.specs.Option.{option_map};
-ghost use Rattle.cdb_reader.specs.Read.{in_range, read_of};
+ghost use Rattle.cdb_reader.specs.Read.{has_data, in_range, read_of};
 ghost use Rattle.cdb_reader.specs.Request.{outcome_of, request_of};
 ghost use Rattle.block_machine.specs.Plans.{first_plan};
 ghost use Rattle.history_replay.specs.Deeds.{marked_blocks};
@@ -162,10 +162,11 @@ impl Duty {
     }
 }
 
-// What a command block with its data asks for, or why it is refused.
-fn read(cdb: &Cdb, sent: &DataOut, capacity: u64) -> Result<Command, Sense>
+/// What a command block with its data asks for, or why it is refused, on a unit of so many blocks.
+pub fn read(cdb: &Cdb, sent: &DataOut, capacity: u64) -> Result<Command, Sense>
     ensures outcome { outcome_of result ≡ read_of cdb.now sent.now capacity }
     ensures range { IfOk result (λ command. IsTrue (in_range (request_of command) capacity)) }
+    ensures data_length { IfOk result (λ command. IsTrue (has_data (request_of command) sent.now)) }
     ensures control { IfOk result HasPageControl }
     ensures few { capacity ≤ 4096 → IfOk result NamesFewBlocks }
 {

@@ -147,7 +147,7 @@ fn attentions_at_start() -> Attentions
     ensures start { result ≡ attentions_at_start }
     ensures known { KnownWait result }
 {
-    Attentions::none()
+    Attentions::power_on()
 }
 
 // What is kept before the first turn.

@@ -9,6 +9,8 @@ use std::test::Fail;
 
 const ZEROS: Value = Value::Data([0x00; BLOCK_LENGTH]);
 
+const ONES: Value = Value::Data([0x01; BLOCK_LENGTH]);
+
 const ELEVENS: Value = Value::Data([0x11; BLOCK_LENGTH]);
 
 const TWELVES: Value = Value::Data([0x12; BLOCK_LENGTH]);
@@ -129,28 +131,28 @@ fn first_read(alloc: Global, value: Value) -> Result<Vec<Turn>, Fail> {
 fn a_read_of_zeros_is_legal(rt: HostRuntime) -> Result<(), Fail> {
     let alloc = rt.alloc();
     let turns = first_read(alloc, ZEROS)?;
-    assert!(rt; legal_from(alloc, Attentions::power_on(), turns.as_slice(), 912)?);
-    let array = replay_from(alloc, Attentions::power_on(), turns.as_slice(), 912)?;
+    assert!(rt; legal(alloc, turns.as_slice(), 912)?);
+    let array = replay(alloc, turns.as_slice(), 912)?;
     assert_eq!(rt; array.as_slice().len(), 912);
     assert!(rt; has(array.as_slice(), 0, &[ZEROS], &[]));
     let blocks = replay_blocks(alloc, turns.as_slice(), 912)?;
     assert!(rt; has(blocks.as_slice(), 911, &[ZEROS], &[]));
     // Where nothing waits, nothing is told.
-    assert!(rt; !legal(alloc, turns.as_slice(), 912)?);
-    let refused = replay(alloc, turns.as_slice(), 912).err();
+    assert!(rt; !legal_from(alloc, Attentions::none(), turns.as_slice(), 912)?);
+    let refused = replay_from(alloc, Attentions::none(), turns.as_slice(), 912).err();
     assert!(rt; refused == Some(ReplayFault::Step { turn: 2 }));
-    let turns = first_read(alloc, ELEVENS)?;
+    let turns = first_read(alloc, ONES)?;
     let refused = replay_blocks(alloc, turns.as_slice(), 912).err();
     assert!(rt; refused == Some(ReplayFault::Step { turn: 5 }));
     // The commands don't tell what a block may give.
-    assert!(rt; task_legal_from(alloc, Attentions::power_on(), turns.as_slice(), 912)?);
-    assert!(rt; !legal_from(alloc, Attentions::power_on(), turns.as_slice(), 912)?);
-    let refused = replay_from(alloc, Attentions::power_on(), turns.as_slice(), 912).err();
+    assert!(rt; task_legal(alloc, turns.as_slice(), 912)?);
+    assert!(rt; !legal(alloc, turns.as_slice(), 912)?);
+    let refused = replay(alloc, turns.as_slice(), 912).err();
     assert!(rt; refused == Some(ReplayFault::Step { turn: 5 }));
     Ok(())
 }
 
-// A write of two blocks into the cache, and a sync of the whole disk.
+// A write of two blocks into the cache, and a sync of the whole disk, once nothing waits any more.
 fn write_and_sync(alloc: Global) -> Result<Vec<Turn>, Fail> {
     let hard = |b: u64| Entry::Harden {
         who: Who::Command(2),
@@ -180,18 +182,18 @@ fn write_and_sync(alloc: Global) -> Result<Vec<Turn>, Fail> {
 fn a_write_and_a_sync_are_legal(rt: HostRuntime) -> Result<(), Fail> {
     let alloc = rt.alloc();
     let mut turns = write_and_sync(alloc)?;
-    assert!(rt; legal(alloc, turns.as_slice(), 912)?);
-    let array = replay(alloc, turns.as_slice(), 912)?;
+    assert!(rt; legal_from(alloc, Attentions::none(), turns.as_slice(), 912)?);
+    let array = replay_from(alloc, Attentions::none(), turns.as_slice(), 912)?;
     assert!(rt; has(array.as_slice(), 5, &[ELEVENS], &[]));
     assert!(rt; has(array.as_slice(), 6, &[ELEVENS], &[]));
     // The same command can't end again.
     works(alloc, &mut turns, 2, good(2), None)?;
-    assert!(rt; !task_legal(alloc, turns.as_slice(), 912)?);
-    let refused = replay(alloc, turns.as_slice(), 912).err();
+    assert!(rt; !task_legal_from(alloc, Attentions::none(), turns.as_slice(), 912)?);
+    let refused = replay_from(alloc, Attentions::none(), turns.as_slice(), 912).err();
     assert!(rt; refused == Some(ReplayFault::Step { turn: 10 }));
     // What isn't hardened yet is newer.
     turns.truncate(5);
-    let array = replay(alloc, turns.as_slice(), 912)?;
+    let array = replay_from(alloc, Attentions::none(), turns.as_slice(), 912)?;
     assert!(rt; has(array.as_slice(), 5, &[ZEROS], &[ELEVENS]));
     Ok(())
 }
@@ -230,16 +232,16 @@ fn cut_and_read(alloc: Global, value: Value) -> Result<Vec<Turn>, Fail> {
 fn a_cut_leaves_old_newer_or_lost(rt: HostRuntime) -> Result<(), Fail> {
     let alloc = rt.alloc();
     let turns = cut(alloc)?;
-    let array = replay_from(alloc, Attentions::power_on(), turns.as_slice(), 912)?;
+    let array = replay(alloc, turns.as_slice(), 912)?;
     let values = [ZEROS, ELEVENS, Value::Lost];
     assert!(rt; has(array.as_slice(), 5, &values, &[]));
     let turns = cut_and_read(alloc, ZEROS)?;
-    assert!(rt; legal_from(alloc, Attentions::power_on(), turns.as_slice(), 912)?);
+    assert!(rt; legal(alloc, turns.as_slice(), 912)?);
     let turns = cut_and_read(alloc, ELEVENS)?;
-    let array = replay_from(alloc, Attentions::power_on(), turns.as_slice(), 912)?;
+    let array = replay(alloc, turns.as_slice(), 912)?;
     assert!(rt; has(array.as_slice(), 5, &[ELEVENS], &[]));
     let turns = cut_and_read(alloc, TWELVES)?;
-    let refused = replay_from(alloc, Attentions::power_on(), turns.as_slice(), 912).err();
+    let refused = replay(alloc, turns.as_slice(), 912).err();
     assert!(rt; refused == Some(ReplayFault::Step { turn: 12 }));
     Ok(())
 }

@@ -37,6 +37,7 @@ pub use arrival::arrival_may_come;
 pub use block_turns::replay_blocks;
 pub use blocks::{apply, blocks_at_start, may_come};
 pub use deed::{Done, deed_of, left_after};
+pub use duty::read;
 pub use effects::{corrupt_after, may_come_out, settings_after, starts_alone, watch_scan};
 pub use fault::ReplayFault;
 pub use form::{has_defect_length, tells_recovery};
