@@ -328,12 +328,9 @@ fn weight_of(capacity: u64, line: &Line) -> u64 {
 
 fn is_served(line: &Line) -> bool {
     match line {
-        Line::Command { initiator, attribute, cdb, .. } => {
-            *initiator == 1
-                && matches!(attribute, Attribute::Simple)
-                && matches!(cdb.bytes[0], 0x28 | 0x2A | 0x2E | 0x2F | 0x35 | 0x88 | 0x8A | 0x91)
-        }
-        Line::Go | Line::World(World::Damage { .. }) => true,
+        Line::Command { cdb, .. } => !matches!(cdb.bytes[0], 0x07 | 0x15 | 0x55),
+        Line::Function { .. } | Line::Go => true,
+        Line::World(World::Damage { .. } | World::Minutes(_)) => true,
         _ => false,
     }
 }

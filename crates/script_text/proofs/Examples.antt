@@ -1,18 +1,19 @@
 -- Scripts and what they mean: each form of line where it is in order and where it isn't, each reason, and which reason
 -- of two comes.
 use Rattle.std.proofs.Common.{◌≡◌, ℕ, List, [], ◌∷◌, None, Some, Ok, Err, refl, pos, negsuc}
-use Rattle.std.specs.Prelude.{codes}
+use Rattle.std.specs.Prelude.{codes, replicate}
 use Rattle.text_words.specs.Number.{number}
 use Rattle.text_words.specs.Digits.{bytes_of, byte_of}
 use Rattle.text_words.specs.Line.{parts_at}
 use Rattle.hex.proofs.OnLiterals.{hex_on_literals}
-use Rattle.disk_base.specs.declared.command.Attribute.TheVariants.{Simple}
+use Rattle.disk_base.specs.declared.command.Attribute.TheVariants.{Simple, Ordered, Head}
 use Rattle.disk_base.specs.declared.command.DataOut.TheVariants.{Nothing, Fill, Given}
+use Rattle.disk_base.specs.declared.command.Function.TheVariants.{Abort, Reset}
 use Rattle.platter_model.specs.declared.damage.Lasting.TheVariants.{Hard, Soft, Plus}
 use Rattle.platter_model.specs.declared.damage.Effect.TheVariants.{Drop, Add}
-use Rattle.platter_model.specs.declared.world.World.TheVariants.{Damage}
+use Rattle.platter_model.specs.declared.world.World.TheVariants.{Damage, Minutes}
 use Rattle.script_text.specs.declared.script.Line.{Line}
-use Rattle.script_text.specs.declared.script.Line.TheVariants.{Command, Scan, Go, World}
+use Rattle.script_text.specs.declared.script.Line.TheVariants.{Command, Function, Scan, Go, World}
 use Rattle.script_text.specs.declared.why.Why.{Why}
 use Rattle.script_text.specs.declared.why.Why.TheVariants.{Bytes, Shape, Number, Hex, Cdb, Disk, Place, Tag, Limit, Later}
 use Rattle.script_text.specs.Forms.{form_of}
@@ -277,24 +278,47 @@ tag_in_the_next_phase : Asks (codes "cmd 1 7 S 28000000000000000100\ngo\ncmd 1 7
 unfolding script_of with_text with_words with_line with_measures with_primary form_of measures_from command_of damage_at plain_drop soft_drop plain_add soft_add armed number parts_at bytes_of byte_of hex_on_literals
 tag_in_the_next_phase = refl
 
--- Later: another initiator
-second_initiator : Refuses (codes "cmd 2 1 S 28000000000000000100\n") 1 Later
+-- other initiators, and the other attributes
+all_attributes : Asks (codes "cmd 8 1 O 000000000000\ncmd 2 1 H 000000000000\n")
+    (Command 8 (record { 0 = 1 }) Ordered (replicate 6 0) Nothing ∷ Command 2 (record { 0 = 1 }) Head (replicate 6 0) Nothing ∷ Go ∷ [])
 unfolding script_of with_text with_words with_line with_measures with_primary form_of measures_from command_of damage_at plain_drop soft_drop plain_add soft_add armed number parts_at bytes_of byte_of hex_on_literals
-second_initiator = refl
+all_attributes = refl
 
--- Later: another attribute
-ordered : Refuses (codes "cmd 1 1 O 28000000000000000100\n") 1 Later
+-- functions
+abort : Asks (codes "abort 8 65535\n") (Function 8 (Abort (record { 0 = 65535 })) ∷ Go ∷ [])
 unfolding script_of with_text with_words with_line with_measures with_primary form_of measures_from command_of damage_at plain_drop soft_drop plain_add soft_add armed number parts_at bytes_of byte_of hex_on_literals
-ordered = refl
+abort = refl
 
--- Later: background turns, a function and other world lines are in order
+reset : Asks (codes "reset 1\n") (Function 1 Reset ∷ Go ∷ [])
+unfolding script_of with_text with_words with_line with_measures with_primary form_of measures_from command_of damage_at plain_drop soft_drop plain_add soft_add armed number parts_at bytes_of byte_of hex_on_literals
+reset = refl
+
+-- minutes that pass
+minutes : Asks (codes "minutes 65535\n") (World (Minutes 65535) ∷ [])
+unfolding script_of with_text with_words with_line with_measures with_primary form_of measures_from command_of damage_at plain_drop soft_drop plain_add soft_add armed number parts_at bytes_of byte_of hex_on_literals
+minutes = refl
+
+-- Later: REASSIGN BLOCKS and MODE SELECT
+reassign_blocks : Refuses (codes "cmd 1 1 S 070000000000\n") 1 Later
+unfolding script_of with_text with_words with_line with_measures with_primary form_of measures_from command_of damage_at plain_drop soft_drop plain_add soft_add armed number parts_at bytes_of byte_of hex_on_literals
+reassign_blocks = refl
+
+mode_select_6 : Refuses (codes "cmd 1 1 S 150000000000\n") 1 Later
+unfolding script_of with_text with_words with_line with_measures with_primary form_of measures_from command_of damage_at plain_drop soft_drop plain_add soft_add armed number parts_at bytes_of byte_of hex_on_literals
+mode_select_6 = refl
+
+mode_select_10 : Refuses (codes "cmd 1 1 S 55000000000000000000\n") 1 Later
+unfolding script_of with_text with_words with_line with_measures with_primary form_of measures_from command_of damage_at plain_drop soft_drop plain_add soft_add armed number parts_at bytes_of byte_of hex_on_literals
+mode_select_10 = refl
+
+-- Later: background turns, write faults and the power are in order
 scan : Refuses (codes "scan 60000\n") 1 Later
 unfolding script_of with_text with_words with_line with_measures with_primary form_of measures_from command_of damage_at plain_drop soft_drop plain_add soft_add armed number parts_at bytes_of byte_of hex_on_literals
 scan = refl
 
-abort : Refuses (codes "abort 8 65535\n") 1 Later
+destage : Refuses (codes "destage 60000\n") 1 Later
 unfolding script_of with_text with_words with_line with_measures with_primary form_of measures_from command_of damage_at plain_drop soft_drop plain_add soft_add armed number parts_at bytes_of byte_of hex_on_literals
-abort = refl
+destage = refl
 
 cut_now : Refuses (codes "cut now\n") 1 Later
 unfolding script_of with_text with_words with_line with_measures with_primary form_of measures_from command_of damage_at plain_drop soft_drop plain_add soft_add armed number parts_at bytes_of byte_of hex_on_literals
@@ -303,10 +327,6 @@ cut_now = refl
 cut_write : Refuses (codes "cut write 4294967295 none 9478\n") 1 Later
 unfolding script_of with_text with_words with_line with_measures with_primary form_of measures_from command_of damage_at plain_drop soft_drop plain_add soft_add armed number parts_at bytes_of byte_of hex_on_literals
 cut_write = refl
-
-minutes : Refuses (codes "minutes 65535\n") 1 Later
-unfolding script_of with_text with_words with_line with_measures with_primary form_of measures_from command_of damage_at plain_drop soft_drop plain_add soft_add armed number parts_at bytes_of byte_of hex_on_literals
-minutes = refl
 
 fault : Refuses (codes "fault 16\n") 1 Later
 unfolding script_of with_text with_words with_line with_measures with_primary form_of measures_from command_of damage_at plain_drop soft_drop plain_add soft_add armed number parts_at bytes_of byte_of hex_on_literals
@@ -349,7 +369,7 @@ number_before_disk : Refuses (codes "disk 99999 x 1 1\n") 1 Number
 unfolding script_of with_text with_words with_line with_measures with_primary form_of measures_from command_of damage_at plain_drop soft_drop plain_add soft_add armed number parts_at bytes_of byte_of hex_on_literals
 number_before_disk = refl
 
-tag_before_later : Refuses (codes "cmd 1 7 S 28000000000000000100\ncmd 1 7 O 28000000000000000100\n") 2 Tag
+tag_before_later : Refuses (codes "cmd 1 7 S 28000000000000000100\ncmd 1 7 S 070000000000\n") 2 Tag
 unfolding script_of with_text with_words with_line with_measures with_primary form_of measures_from command_of damage_at plain_drop soft_drop plain_add soft_add armed number parts_at bytes_of byte_of hex_on_literals
 tag_before_later = refl
 
