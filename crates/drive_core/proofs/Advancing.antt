@@ -22,12 +22,12 @@ use Rattle.drive_core.specs.declared.answer.Pick.TheVariants.{Work}
 use Rattle.drive_core.specs.declared.server.Server.{Server}
 use Rattle.drive_core.specs.Scene.{Scene}
 use Rattle.drive_core.specs.Evidence.{lba}
-use Rattle.drive_core.specs.Holds.{held_by_plan, held_block, holds, holder_besides, needed_by_plan, needed_block}
+use Rattle.drive_core.specs.Holds.{held_by_plan, held_block, holds, holder_besides, needed_by_plan, needed_block, IsApart}
 use Rattle.drive_core.specs.Accepting.{accepted_of}
 use Rattle.drive_core.specs.Commands.{View, view, IsAtBlock, IsStaged, IsCommand, IsUnderWay, IsWaiting, IsWorking}
 use Rattle.drive_core.specs.Fits.{Fits}
 use Rattle.drive_core.specs.Able.{held_by_other, work_refused, is_able, able, nothing_waiting}
-use Rattle.drive_core.specs.Progress.{IsApart, SomebodyIsAble}
+use Rattle.drive_core.specs.Progress.{SomebodyIsAble}
 use Rattle.drive_core.proofs.Walking.{member-number}
 
 -- a block that a plan holds is the one that it needs
@@ -134,42 +134,42 @@ holder_free s q b (Some x) apart held is =
     let found : Found s q b x = found_in s q b x s.hist.set is in
     absurd (found.other (apart x q b found.held held))
 
-free_holder : (s : Scene) (d : Server) (q b : ℕ) → Fits s d → IsApart s → held_block s q ≡ Some b → IsFree s
-free_holder s d q b fits apart held =
+free_holder : (s : Scene) (d : Server) (q b : ℕ) → Fits s d → held_block s q ≡ Some b → IsFree s
+free_holder s d q b fits held =
     let holds_it : Holds s q b = holding s q b (accepted_of d.commands.items q) (fits.staged q) held in
     record {
       c = q;
       m = holds_it.m;
       is_in = holds_it.is_in;
       free = unheld s q holds_it.m holds_it.started
-          (ap (option_and_then (held_by_other s q)) holds_it.needs ∙ holder_free s q b (holder_besides s q b) apart held refl);
+          (ap (option_and_then (held_by_other s q)) holds_it.needs ∙ holder_free s q b (holder_besides s q b) fits.apart held refl);
     }
 
-by_holder : (s : Scene) (d : Server) (c b : ℕ) (m : Member) (o : Option ℕ) → Fits s d → IsApart s → member_of s.hist.set c ≡ Some m → m.started ≡ true
+by_holder : (s : Scene) (d : Server) (c b : ℕ) (m : Member) (o : Option ℕ) → Fits s d → member_of s.hist.set c ≡ Some m → m.started ≡ true
     → needed_block s c ≡ Some b → holder_besides s c b ≡ o → IsFree s
-by_holder s d c b m None fits apart is_in started needs none = record {
+by_holder s d c b m None fits is_in started needs none = record {
   c = c;
   m = m;
   is_in = is_in;
   free = unheld s c m started (ap (option_and_then (held_by_other s c)) needs
       ∙ ap (option_map (λ (other : ℕ). answer.Held (lba b) (holder.Command other))) none);
 }
-by_holder s d c b m (Some q) fits apart is_in started needs is = free_holder s d q b fits apart (found_in s c b q s.hist.set is).held
+by_holder s d c b m (Some q) fits is_in started needs is = free_holder s d q b fits (found_in s c b q s.hist.set is).held
 
-by_need : (s : Scene) (d : Server) (c : ℕ) (m : Member) (o : Option ℕ) → Fits s d → IsApart s → member_of s.hist.set c ≡ Some m → m.started ≡ true
+by_need : (s : Scene) (d : Server) (c : ℕ) (m : Member) (o : Option ℕ) → Fits s d → member_of s.hist.set c ≡ Some m → m.started ≡ true
     → needed_block s c ≡ o → IsFree s
-by_need s d c m None fits apart is_in started needs = record {
+by_need s d c m None fits is_in started needs = record {
   c = c;
   m = m;
   is_in = is_in;
   free = unheld s c m started (ap (option_and_then (held_by_other s c)) needs);
 }
-by_need s d c m (Some b) fits apart is_in started needs = by_holder s d c b m (holder_besides s c b) fits apart is_in started needs refl
+by_need s d c m (Some b) fits is_in started needs = by_holder s d c b m (holder_besides s c b) fits is_in started needs refl
 
-by_start : (s : Scene) (d : Server) (c : ℕ) (m : Member) (t : Bool) → Fits s d → IsApart s → member_of s.hist.set c ≡ Some m → m.started ≡ t
+by_start : (s : Scene) (d : Server) (c : ℕ) (m : Member) (t : Bool) → Fits s d → member_of s.hist.set c ≡ Some m → m.started ≡ t
     → cond t None (first_forbidding s.hist.set m.task) ≡ None → IsFree s
-by_start s d c m true fits apart is_in started runs = by_need s d c m (needed_block s c) fits apart is_in started refl
-by_start s d c m false fits apart is_in started runs = record {
+by_start s d c m true fits is_in started runs = by_need s d c m (needed_block s c) fits is_in started refl
+by_start s d c m false fits is_in started runs = record {
   c = c;
   m = m;
   is_in = is_in;
@@ -177,10 +177,10 @@ by_start s d c m false fits apart is_in started runs = record {
       ∙ ap (option_map answer.Dormant) runs;
 }
 
-by_member : (s : Scene) (d : Server) (c : ℕ) (o : Option Member) → Fits s d → IsApart s → member_of s.hist.set c ≡ o → is_some o ≡ true
+by_member : (s : Scene) (d : Server) (c : ℕ) (o : Option Member) → Fits s d → member_of s.hist.set c ≡ o → is_some o ≡ true
     → option_and_then (λ (m : Member). cond m.started None (first_forbidding s.hist.set m.task)) o ≡ None → IsFree s
-by_member s d c None fits apart is some runs = absurd (cc)
-by_member s d c (Some m) fits apart is some runs = by_start s d c m m.started fits apart is refl runs
+by_member s d c None fits is some runs = absurd (cc)
+by_member s d c (Some m) fits is some runs = by_start s d c m m.started fits is refl runs
 
 -- one that passes is left
 some_left : (p : Member → Bool) (set : List Member) (c : ℕ) (m : Member) → member_of set c ≡ Some m → p m ≡ true → 0 < length (filter p set)
@@ -193,10 +193,10 @@ some_left p (x ∷ xs) c m is passes = by (λ rest. some_left p xs c m rest pass
     by rest false px true there = let same : x ≡ m = cc in absurd (let never : ⊥ = cc (ap p same) in never)
     by rest false px false there = rest there
 
-pub somebody_is_able : (s : Scene) (d : Server) → Fits s d → IsApart s → IsByAge s.hist.set → SomeCommandMayRun → SomebodyIsAble s
-somebody_is_able s d fits apart by_age law some =
+pub somebody_is_able : (s : Scene) (d : Server) → Fits s d → IsByAge s.hist.set → SomeCommandMayRun → SomebodyIsAble s
+somebody_is_able s d fits by_age law some =
     let runs = law s.hist.set by_age some in
-    let one : IsFree s = by_member s d runs.0 (member_of s.hist.set runs.0) fits apart refl runs.1 runs.2 in
+    let one : IsFree s = by_member s d runs.0 (member_of s.hist.set runs.0) fits refl runs.1 runs.2 in
     let passes : is_able s one.m ≡ true =
     ap (λ (n : ℕ). is_none (work_refused s n one.m)) (member-number s.hist.set one.c one.m one.is_in) ∙ ap is_none one.free in
     let left : 0 < length (filter (is_able s) s.hist.set) = some_left (is_able s) s.hist.set one.c one.m one.is_in passes in

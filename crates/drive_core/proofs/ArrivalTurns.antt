@@ -1,16 +1,14 @@
 -- A turn in which a command arrives.
-use Rattle.std.proofs.Common.{◌≡◌, ◌≢◌, ℕ, ◌+◌, ◌≤◌, ◌<◌, Bool, true, false, not, cond, eqb, ltb, length, List, [], ◌∷◌, ◌++◌, Option, Some, None, refl, sym, ap, ◌∙◌, subst, arith, append-nil}
+use Rattle.std.proofs.Common.{◌≡◌, ◌≢◌, ℕ, ◌+◌, ◌≤◌, ◌<◌, Bool, true, false, not, cond, eqb, ltb, length, List, [], ◌∷◌, ◌++◌, Option, Some, None, refl, sym, ap, ◌∙◌, subst, arith, ⊎_elim}
 use Rattle.std.specs.Prelude.{◌&&◌, All, slice_index, IsTrue}
 use Rattle.std.specs.Option.{option_and_then}
 use Rattle.std.specs.List.{find}
-use Rattle.std.proofs.lemmas.Bool.{eq-eqb, ne_eqb, le-ltb, lt-ltb}
-use Rattle.std.proofs.lemmas.List.Elements.{All-head, All-tail, All-push, All-weaker}
+use Rattle.std.proofs.lemmas.Bool.{cases_eq, eq-eqb, ne_eqb, le-ltb, lt-ltb}
+use Rattle.std.proofs.lemmas.List.Elements.{All-nil, All-head, All-tail, All-push, All-weaker}
+use Rattle.disk_base.specs.At.{put_at}
 use Rattle.disk_base.specs.declared.address.Tag.{Tag}
 use Rattle.platter_model.specs.declared.op.Op.{Op}
-use Rattle.platter_model.specs.Sector.{is_faulty}
-use Rattle.platter_model.specs.TrueLog.{is_off}
 use Rattle.sense_data.specs.declared.reply.Reply.{Reply}
-use Rattle.geometry_map.specs.DefectMap.{DefectMap}
 use Rattle.task_set.specs.declared.member.Member.{Member}
 use Rattle.task_set.specs.Members.{member_of, without, with_arrived}
 use Rattle.sector_store.specs.State.{Contained}
@@ -27,23 +25,30 @@ use Rattle.history_replay.specs.Arrival.{with_commands}
 use Rattle.history_replay.proofs.Absent.{absent_left}
 use Rattle.drive_core.specs.declared.accepted.Accepted.{Accepted}
 use Rattle.drive_core.specs.declared.arriving.Arriving.{Arriving}
+use Rattle.drive_core.specs.declared.event.Arrival.TheVariants.{Function}
+use Rattle.drive_core.specs.declared.event.Event.{Event}
+use Rattle.drive_core.specs.declared.event.Event.TheVariants as event
 use Rattle.drive_core.specs.declared.server.Server.{Server}
 use Rattle.drive_core.specs.declared.answer.Ended as told_end
 use Rattle.drive_core.specs.Scene.{Scene, capacity, scene_after}
 use Rattle.drive_core.specs.Evidence.{lba, Shows, IsEndShown}
-use Rattle.drive_core.specs.GoodTurn.{GoodTurn, IsStood}
+use Rattle.drive_core.specs.Holds.{held_by_plan, held_block}
+use Rattle.drive_core.specs.GoodTurn.{GoodTurn, WritesBlockData}
 use Rattle.drive_core.specs.Accepting.{accepted_of}
 use Rattle.drive_core.specs.Arriving.{entry_of}
 use Rattle.drive_core.specs.Commands.{View, view, IsStaged, IsCommand, IsUnderWay}
 use Rattle.drive_core.specs.Ending.{ended_by}
-use Rattle.drive_core.specs.Fits.{Fits, HasOps, IsPresentMap, IsCached, KnowsHistory}
+use Rattle.drive_core.specs.Fits.{Fits, IsCached, KnowsHistory}
 use Rattle.drive_core.specs.Moves.{Moves, beat}
 use Rattle.drive_core.specs.Served.{is_served, is_served_cdb}
+use Rattle.drive_core.specs.Serving.{entries_at_most}
 use Rattle.drive_core.proofs.Tables.{put_at-own, put_at-other}
 use Rattle.drive_core.proofs.Keyed.{find-push_own, find-push_other}
-use Rattle.drive_core.proofs.Elsewhere.{IsAlike, staged-alike, all_staged}
+use Rattle.drive_core.proofs.Elsewhere.{IsAlike, held-alike, staged-alike, all_staged}
+use Rattle.drive_core.proofs.Apart.{held_out, apart_none}
 use Rattle.drive_core.proofs.Parts.{cached_got, quiet_got}
-use Rattle.drive_core.proofs.Closing.{has_ops}
+use Rattle.drive_core.proofs.Fitting.{known-quiet}
+use Rattle.drive_core.proofs.Unmoved.{still_stands, has_same, none_added}
 use Rattle.drive_core.proofs.Serves.{served_cdb}
 
 -- a number behind all that are in is in for none
@@ -67,18 +72,12 @@ module _ (s : Scene) (d e : Server) (x : Arriving) (c : ℕ) (fits : Fits s d) (
   abbrev after : List Entry → Scene
   after entries = scene_after s (beat (Arrive x.initiator) entries [])
 
-  still_stands : IsStood s.map (s.ops ++ []) s.hist.blocks
-  still_stands = subst (λ (ops : List Op). IsStood s.map ops s.hist.blocks) (sym (append-nil s.ops)) fits.stands
-
-  store_present : IsPresentMap e.store.map e.store.platter.ops
-  store_present =
-      subst (λ (y : Contained). IsPresentMap y.map y.platter.ops) (sym store_is)
-      (subst (λ (n : DefectMap). IsPresentMap n d.store.platter.ops) (sym fits.store.map) (subst (λ (ops : List Op). IsPresentMap s.map ops) (sym fits.store.ops) fits.store.present))
-
-  has : (t : Scene) → t.map ≡ s.map → t.ops ≡ s.ops ++ [] → HasOps t e.store
-  has t map_is ops_is = has_ops s t d.store e.store [] fits.store map_is ops_is (ap (λ (y : Contained). y.map) store_is)
-      (ap (λ (y : Contained). y.platter.ops) store_is ∙ sym (append-nil d.store.platter.ops)) (ap (λ (y : Contained). y.platter.armed) store_is)
-      (ap is_off (append-nil s.ops)) (λ p. ap (is_faulty p) (append-nil s.ops)) store_present
+  -- a command that arrives has an empty window
+  windows : (q : ℕ) → length (put_at c [] s.windows q) ≤ 50
+  windows q = ⊎_elim
+      (λ (own : q ≡ c). subst (λ (n : ℕ). length (put_at c [] s.windows n) ≤ 50) (sym own) (subst (λ (w : List Op). length w ≤ 50) (sym (put_at-own c [] s.windows)) (omega arith)))
+      (λ (other : q ≡ c → ⊥). subst (λ (w : List Op). length w ≤ 50) (sym (put_at-other c q [] s.windows other)) (fits.windows q))
+      (cases_eq q c)
 
   -- a command that comes while there is room
   pub enters : (a : Accepted) (entries : List Entry) → is_full s.hist ≡ false → is_served_cdb x.cdb ≡ true
@@ -112,9 +111,7 @@ module _ (s : Scene) (d e : Server) (x : Arriving) (c : ℕ) (fits : Fits s d) (
           served = ap (λ (y : Duty). is_served y.asks) duty ∙ served_cdb x.cdb x.sent (capacity s) served;
         });
       } in
-      let others : (q : ℕ) → q ≢ c → IsStaged (view t q) (accepted_of e.commands.items q) = λ q other.
-      staged-alike s t q (accepted_of d.commands.items q) (accepted_of e.commands.items q)
-      (record {
+      let alike : (q : ℕ) → q ≢ c → IsAlike s t q = λ q other. record {
         map = refl;
         member = ap (λ (ms : List Member). member_of ms q) new_set ∙ find-push_other (λ (m : Member). m.task.c) c q s.hist.set member refl other;
         duty = put_at-other c q _ s.hist.duties other;
@@ -122,13 +119,17 @@ module _ (s : Scene) (d e : Server) (x : Arriving) (c : ℕ) (fits : Fits s d) (
         settings = refl;
         recovered = put_at-other c q None s.recovered other;
         dirty = λ n holds. refl;
-      })
+      } in
+      let others : (q : ℕ) → q ≢ c → IsStaged (view t q) (accepted_of e.commands.items q) = λ q other.
+      staged-alike s t q (accepted_of d.commands.items q) (accepted_of e.commands.items q) (alike q other)
       (ap (λ (xs : List Accepted). accepted_of xs q) commands_are ∙ find-push_other (λ (y : Accepted). y.c) c q d.commands.items a (ap (λ (y : Accepted). y.c) a_is) other)
       (fits.staged q) in
+      let unheld : held_block t c ≡ None =
+      (λ i. option_and_then (held_by_plan (t.windows c)) (option_and_then (λ (m : Member). (duty i).owes) (in_set i))) in
       let M : List Entry → Type 0 = λ es. Moves (Arrive x.initiator) s d e es None in
       let moves : M (entry_of c x ∷ []) = record {
         ops = [];
-        added = ap (λ (y : Contained). y.platter.ops) store_is ∙ sym (append-nil d.store.platter.ops);
+        added = none_added s d e fits store_is;
         good = record {
           tasks = and_both (eqb x.initiator x.initiator && eqb c (s.hist.arrived + 1)) (is_answered (is_full s.hist) c [])
               (and_both (eqb x.initiator x.initiator) (eqb c (s.hist.arrived + 1)) (eq-eqb x.initiator x.initiator refl) (eq-eqb c (s.hist.arrived + 1) c_is))
@@ -137,22 +138,16 @@ module _ (s : Scene) (d e : Server) (x : Arriving) (c : ℕ) (fits : Fits s d) (
           shown = (tt, tt);
           step = refl;
           one_block = (lba 0, refl);
+          written = All-nil (WritesBlockData s.map);
+          own = tt;
+          window = windows;
           held = λ q below about. tt;
-          stands = still_stands;
+          stands = still_stands s d e fits store_is;
         };
         fits = record {
-          store = has t refl refl;
+          store = has_same s d e fits store_is t refl refl;
           cached = subst (λ (y : Contained). IsCached t y.cache) (sym store_is) (cached_got s t d.store.cache (quiet_got s t (entry_of c x ∷ []) refl refl refl refl refl refl) fits.cached);
-          known = subst (λ (k : Known). KnowsHistory t k) (sym known_is) (record {
-            capacity = fits.known.capacity;
-            settings = fits.known.settings;
-            retry = fits.known.retry;
-            waiting = fits.known.waiting;
-            unwarned = fits.known.unwarned;
-            corrupt = fits.known.corrupt;
-            readable = fits.known.readable;
-            scan = fits.known.scan;
-          });
+          known = subst (λ (k : Known). KnowsHistory t k) (sym known_is) (known-quiet s t d.known refl refl refl refl refl fits.known);
           tasks = record {
             set = set_is ∙ (λ i. set_after (fits.known.capacity i) (with_commands 0 (fits.tasks.set i)) (entry_of c x));
             arrived = arrived_is ∙ c_is;
@@ -162,7 +157,9 @@ module _ (s : Scene) (d e : Server) (x : Arriving) (c : ℕ) (fits : Fits s d) (
                 (omega arith));
           };
           staged = all_staged t e.commands.items c (subst (λ (o : Option Accepted). IsStaged (view t c) o) (sym own_member) own) others;
-          stands = still_stands;
+          apart = apart_none s t c fits.apart (λ q other. held-alike s t q (alike q other)) unheld;
+          windows = windows;
+          stands = still_stands s d e fits store_is;
         };
         counted = omega arith;
         ended = refl;
@@ -183,10 +180,19 @@ module _ (s : Scene) (d e : Server) (x : Arriving) (c : ℕ) (fits : Fits s d) (
       let owes : owed_by h c ≡ None = ap (λ (ms : List Member). option_and_then (λ (m : Member). (h.duties c).owes) (member_of ms c)) kept
       ∙ ap (option_and_then (λ (m : Member). (h.duties c).owes)) absent in
       let gone : member_of t.hist.set c ≡ None = ap (λ (ms : List Member). member_of ms c) new_set ∙ absent in
+      let alike : (q : ℕ) → q ≢ c → IsAlike s t q = λ q other. record {
+        map = refl;
+        member = ap (λ (ms : List Member). member_of ms q) new_set;
+        duty = put_at-other c q _ h.duties other ∙ put_at-other c q _ s.hist.duties other;
+        window = put_at-other c q [] s.windows other;
+        settings = refl;
+        recovered = put_at-other c q None s.recovered other;
+        dirty = λ n holds. refl;
+      } in
       let M : List Entry → Option told_end.Ended → Type 0 = λ es o. Moves (Arrive x.initiator) s d e es o in
       let moves : M (entry_of c x ∷ Ended c task_set_full ∷ []) (Some (ended_by x.initiator x.tag 0x28)) = record {
         ops = [];
-        added = ap (λ (y : Contained). y.platter.ops) store_is ∙ sym (append-nil d.store.platter.ops);
+        added = none_added s d e fits store_is;
         good = record {
           tasks = and_both (eqb x.initiator x.initiator && eqb c (s.hist.arrived + 1)) (is_answered (is_full s.hist) c (Ended c task_set_full ∷ []))
               (and_both (eqb x.initiator x.initiator) (eqb c (s.hist.arrived + 1)) (eq-eqb x.initiator x.initiator refl) (eq-eqb c (s.hist.arrived + 1) c_is))
@@ -195,23 +201,17 @@ module _ (s : Scene) (d e : Server) (x : Arriving) (c : ℕ) (fits : Fits s d) (
           shown = (tt, (subst (λ o. IsEndShown s (beat (Arrive x.initiator) (entry_of c x ∷ Ended c task_set_full ∷ []) []) c o task_set_full) (sym owes) tt, tt));
           step = refl;
           one_block = (lba 0, refl);
+          written = All-nil (WritesBlockData s.map);
+          own = tt;
+          window = windows;
           held = λ q below about. tt;
-          stands = still_stands;
+          stands = still_stands s d e fits store_is;
         };
         fits = record {
-          store = has t refl refl;
+          store = has_same s d e fits store_is t refl refl;
           cached = subst (λ (y : Contained). IsCached t y.cache) (sym store_is)
               (cached_got s t d.store.cache (quiet_got s t (entry_of c x ∷ Ended c task_set_full ∷ []) refl refl refl refl refl refl) fits.cached);
-          known = subst (λ (k : Known). KnowsHistory t k) (sym known_is) (record {
-            capacity = fits.known.capacity;
-            settings = fits.known.settings;
-            retry = fits.known.retry;
-            waiting = fits.known.waiting;
-            unwarned = fits.known.unwarned;
-            corrupt = fits.known.corrupt;
-            readable = fits.known.readable;
-            scan = fits.known.scan;
-          });
+          known = subst (λ (k : Known). KnowsHistory t k) (sym known_is) (known-quiet s t d.known refl refl refl refl refl fits.known);
           tasks = record {
             set = set_is ∙ ((λ i. set_after (fits.known.capacity i) (with_commands 0 (fits.tasks.set i)) (entry_of c x)) ∙ (kept ∙ sym new_set));
             arrived = arrived_is ∙ c_is;
@@ -221,18 +221,11 @@ module _ (s : Scene) (d e : Server) (x : Arriving) (c : ℕ) (fits : Fits s d) (
           staged = all_staged t e.commands.items c
               (subst (λ (o : Option Accepted). IsStaged (view t c) o)
               (sym (ap (λ (xs : List Accepted). accepted_of xs c) commands_are ∙ not_accepted (view s c) (accepted_of d.commands.items c) (fits.staged c) absent)) gone)
-              (λ q other. staged-alike s t q (accepted_of d.commands.items q) (accepted_of e.commands.items q)
-              (record {
-                map = refl;
-                member = ap (λ (ms : List Member). member_of ms q) new_set;
-                duty = put_at-other c q _ h.duties other ∙ put_at-other c q _ s.hist.duties other;
-                window = put_at-other c q [] s.windows other;
-                settings = refl;
-                recovered = put_at-other c q None s.recovered other;
-                dirty = λ n holds. refl;
-              })
+              (λ q other. staged-alike s t q (accepted_of d.commands.items q) (accepted_of e.commands.items q) (alike q other)
               (ap (λ (xs : List Accepted). accepted_of xs q) commands_are) (fits.staged q));
-          stands = still_stands;
+          apart = apart_none s t c fits.apart (λ q other. held-alike s t q (alike q other)) (held_out t c gone);
+          windows = windows;
+          stands = still_stands s d e fits store_is;
         };
         counted = omega arith;
         ended = refl;
@@ -245,3 +238,11 @@ is_full-yes s d ms fits same many = ap not (ap (λ (xs : List Member). ltb (leng
 
 pub is_full-no : (s : Scene) (d : Server) (ms : List Member) → Fits s d → ms ≡ d.set → length ms < 64 → is_full s.hist ≡ false
 is_full-no s d ms fits same few = ap not (ap (λ (xs : List Member). ltb (length xs) 64) (sym (same ∙ fits.tasks.set)) ∙ lt-ltb (length ms) 64 few)
+
+-- there is room for the entries of any other turn
+pub room_of_four : (e : Event) (n : ℕ) → entries_at_most e ≤ n → 4 ≤ n
+room_of_four e n room = let four : 4 ≤ entries_at_most e = at_least e in omega arith
+  where
+    at_least : (x : Event) → 4 ≤ entries_at_most x
+    at_least (event.Arrive (Function i what)) = omega arith
+    at_least other = omega arith

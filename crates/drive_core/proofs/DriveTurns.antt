@@ -58,6 +58,8 @@ fits-same s old new same fits = record {
   known = subst (λ (known : Known). KnowsHistory s known) (sym same.known) fits.known;
   tasks = record { set = same.set ∙ fits.tasks.set; arrived = same.arrived ∙ fits.tasks.arrived; came = fits.tasks.came };
   staged = λ c. subst (λ (commands : List Accepted). IsStaged (view s c) (accepted_of commands c)) (sym same.commands) (fits.staged c);
+  apart = fits.apart;
+  windows = fits.windows;
   stands = fits.stands;
 }
 
@@ -161,6 +163,8 @@ adds-turn old new turns given coming number e t made served kept label is counte
       turns = is;
       label = served.label ∙ ap Some (sym label);
       arrival = served.arrival;
+      ops = served.moves.ops;
+      added = served.moves.added;
       size = ap (λ (m : DefectMap). m.size) map_is;
       primary = ap (λ (m : DefectMap). m.primary) map_is;
       coming = refl;

@@ -27,7 +27,7 @@ pub record IsAlike (s t : Scene) (q : ℕ) : Type 0 where
   -- the block that it holds is dirty where it was
   pub dirty : (b : ℕ) → held_block s q ≡ Some b → is_dirty (t.hist.blocks b) ≡ is_dirty (s.hist.blocks b)
 
-held-alike : (s t : Scene) (q : ℕ) → IsAlike s t q → held_block t q ≡ held_block s q
+pub held-alike : (s t : Scene) (q : ℕ) → IsAlike s t q → held_block t q ≡ held_block s q
 held-alike s t q alike =
     λ i. option_and_then (held_by_plan (alike.window i)) (option_and_then (λ (m : Member). (alike.duty i).owes) (alike.member i))
 

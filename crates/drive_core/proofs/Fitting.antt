@@ -8,17 +8,19 @@ use Rattle.sense_data.specs.declared.reply.Reply.{Reply}
 use Rattle.task_set.specs.declared.member.Member.{Member}
 use Rattle.task_set.specs.Members.{member_of, without}
 use Rattle.cdb_reader.specs.declared.plan.Plan.{Plan}
+use Rattle.sense_data.specs.Attentions.{Waiting}
 use Rattle.history_replay.specs.declared.known.Known.{Known}
+use Rattle.history_replay.specs.Warning.{KnownWait}
 use Rattle.block_machine.specs.declared.entry.Entry.{Entry}
 use Rattle.block_machine.specs.declared.entry.Entry.TheVariants.{Ended}
 use Rattle.block_machine.specs.declared.turn.Label.TheVariants.{Work}
 use Rattle.block_machine.specs.Blocks.{is_dirty}
-use Rattle.block_machine.specs.State.{State}
+use Rattle.block_machine.specs.State.{State, owed_by}
 use Rattle.block_machine.specs.Steps.{begun, entry_after}
 use Rattle.drive_core.specs.declared.accepted.Accepted.{Accepted}
 use Rattle.drive_core.specs.declared.server.Server.{Server}
 use Rattle.drive_core.specs.Scene.{Scene, capacity, scene_after, settings_by, recovered_by, windows_with, window_after}
-use Rattle.drive_core.specs.Holds.{held_block}
+use Rattle.drive_core.specs.Holds.{held_by_plan, held_block}
 use Rattle.drive_core.specs.Accepting.{accepted_of, Replaces}
 use Rattle.drive_core.specs.Commands.{view, IsStaged}
 use Rattle.drive_core.specs.GoodTurn.{IsStood}
@@ -26,8 +28,9 @@ use Rattle.drive_core.specs.Fits.{HasOps, IsCached, KnowsHistory, HasTasks, Fits
 use Rattle.drive_core.specs.Moves.{beat}
 use Rattle.drive_core.proofs.Tables.{put_at-other}
 use Rattle.drive_core.proofs.Keyed.{find-dropped_own, find-dropped_other}
-use Rattle.drive_core.proofs.Elsewhere.{IsAlike, staged-alike, all_staged}
-use Rattle.drive_core.proofs.Halves.{Half, IsQuiet}
+use Rattle.drive_core.proofs.Elsewhere.{IsAlike, held-alike, staged-alike, all_staged}
+use Rattle.drive_core.proofs.Halves.{Half, IsQuiet, windows_then}
+use Rattle.drive_core.proofs.Apart.{HoldsAlone, held_of, held_out, apart_on, apart_none}
 
 -- the scene after half a turn
 abbrev pub after_half : Scene → ℕ → List Op → List Entry → Scene
@@ -37,19 +40,25 @@ after_half s c ops entries = scene_after s (beat (Work c) entries ops)
 abbrev pub after_end : Scene → ℕ → List Op → List Entry → Reply → Scene
 after_end s c ops entries reply = scene_after s (beat (Work c) (entries ++ Ended c reply ∷ []) ops)
 
--- mode values, attentions and the scan stay known where the history keeps them
-pub known-quiet : (s t : Scene) (known : Known) → t.map ≡ s.map → t.hist.settings ≡ s.hist.settings → t.hist.waiting ≡ s.hist.waiting → t.hist.corrupt ≡ s.hist.corrupt
-    → t.hist.scan ≡ s.hist.scan → KnowsHistory s known → KnowsHistory t known
-known-quiet s t known map settings waiting corrupt scan k = record {
+-- mode values and the scan stay known where the history keeps them, and the attentions that wait then are known
+pub known-told : (s t : Scene) (known : Known) (waiting : Waiting) → t.map ≡ s.map → t.hist.settings ≡ s.hist.settings → t.hist.waiting ≡ waiting → KnownWait waiting
+    → t.hist.corrupt ≡ s.hist.corrupt → t.hist.scan ≡ s.hist.scan → KnowsHistory s known → KnowsHistory t (record known { waiting = waiting })
+known-told s t known waiting map settings waits warned corrupt scan k = record {
   capacity = k.capacity ∙ ap (λ m. capacity (record s { map = m })) (sym map);
   settings = k.settings ∙ sym settings;
   retry = subst (λ x. x.retry ≤ 20) (sym settings) k.retry;
-  waiting = k.waiting ∙ sym waiting;
-  unwarned = waiting ∙ k.unwarned;
+  waiting = sym waits;
+  warned = warned;
   corrupt = k.corrupt ∙ sym corrupt;
   readable = corrupt ∙ k.readable;
   scan = k.scan ∙ sym scan;
 }
+
+-- so do the attentions
+pub known-quiet : (s t : Scene) (known : Known) → t.map ≡ s.map → t.hist.settings ≡ s.hist.settings → t.hist.waiting ≡ s.hist.waiting → t.hist.corrupt ≡ s.hist.corrupt
+    → t.hist.scan ≡ s.hist.scan → KnowsHistory s known → KnowsHistory t known
+known-quiet s t known map settings waits corrupt scan k =
+    known-told s t known known.waiting map settings (waits ∙ sym k.waiting) k.warned corrupt scan k
 
 -- other commands after half a turn
 pub alike-half : (s : Scene) (c : ℕ) (ops : List Op) (entries : List Entry) (h : State) (plan : Plan) → Half s c ops entries h plan
@@ -68,11 +77,12 @@ alike-half s c ops entries h plan half q other = record {
 pub fits_on : (s : Scene) (c : ℕ) (ops : List Op) (entries : List Entry) (h : State) (plan : Plan) (d e : Server) (a : Accepted) → Half s c ops entries h plan
     → Fits s d → e.set ≡ d.set → e.arrived ≡ d.arrived → e.known ≡ d.known → Replaces d.commands.items e.commands.items c a
     → HasOps (after_half s c ops entries) e.store → IsCached (after_half s c ops entries) e.store.cache → IsStaged (view (after_half s c ops entries) c) (Some a)
-    → Fits (after_half s c ops entries) e
-fits_on s c ops entries h plan d e a half fits set_is arrived_is known_is replaces has_ops cached own =
+    → HoldsAlone s c ((after_half s c ops entries).windows c) plan → Fits (after_half s c ops entries) e
+fits_on s c ops entries h plan d e a half fits set_is arrived_is known_is replaces has_ops cached own alone =
     let t : Scene = after_half s c ops entries in
     let set : t.hist.set ≡ s.hist.set = ap (λ (x : State). x.set) half.reached ∙ half.quiet.set in
     let arrived : t.hist.arrived ≡ s.hist.arrived = ap (λ (x : State). x.arrived) half.reached ∙ half.quiet.arrived in
+    let held : held_block t c ≡ held_by_plan (t.windows c) plan = held_of t c plan (ap (λ (x : State). owed_by x c) half.reached ∙ half.owes) in
     record {
       store = has_ops;
       cached = cached;
@@ -89,6 +99,9 @@ fits_on s c ops entries h plan d e a half fits set_is arrived_is known_is replac
           (subst (λ (o : Option Accepted). IsStaged (view (after_half s c ops entries) c) o) (sym replaces.own) own)
           (λ q other. staged-alike s (after_half s c ops entries) q (accepted_of d.commands.items q) (accepted_of e.commands.items q)
           (alike-half s c ops entries h plan half q other) (replaces.others q other) (fits.staged q));
+      apart = apart_on s (after_half s c ops entries) c fits.apart
+          (λ q other. held-alike s (after_half s c ops entries) q (alike-half s c ops entries h plan half q other)) (λ b holds. alone b (sym held ∙ holds));
+      windows = windows_then s c ops entries h plan d half fits entries;
       stands = subst (λ (x : State). IsStood s.map (s.ops ++ ops) x.blocks) (sym half.reached) half.stands;
     }
 
@@ -148,5 +161,8 @@ fits_end s c ops entries h plan reply d e half fits left has_ops cached =
           (subst (λ (o : Option Accepted). IsStaged (view (after_end s c ops entries reply) c) o) (sym left.own) gone)
           (λ q other. staged-alike s (after_end s c ops entries reply) q (accepted_of d.commands.items q) (accepted_of e.commands.items q)
           (alike-end s c ops entries h plan reply half q other) (left.others q other) (fits.staged q));
+      apart = apart_none s (after_end s c ops entries reply) c fits.apart
+          (λ q other. held-alike s (after_end s c ops entries reply) q (alike-end s c ops entries h plan reply half q other)) (held_out t c gone);
+      windows = windows_then s c ops entries h plan d half fits (entries ++ Ended c reply ∷ []);
       stands = subst (λ (x : State). IsStood s.map (s.ops ++ ops) x.blocks) (sym reached) half.stands;
     }

@@ -24,6 +24,9 @@ use Rattle.sector_store.specs.Factory.{block_at, zero_block, zero_blocks, first_
 use Rattle.sector_store.specs.Stored.{value_in, stored, KeepsBlocks}
 use Rattle.sector_store.specs.State.{Contained, IsStore, made_by_factory}
 use Rattle.block_machine.specs.Blocks.{zeros, blocks_at_start, same_value}
+use Rattle.sense_data.specs.Attentions.{Waiting}
+use Rattle.history_replay.specs.Warning.{KnownWait}
+use Rattle.history_replay.proofs.KnownWaiting.{known_at_start}
 use Rattle.drive_core.specs.declared.accepted.Accepted.{Accepted}
 use Rattle.drive_core.specs.declared.server.Server.{Server}
 use Rattle.drive_core.specs.Scene.{factory_ops, scene_at_start}
@@ -155,13 +158,15 @@ fresh_at size primary d is own fresh set commands arrived known =
           settings = known.settings;
           retry = omega arith;
           waiting = known.waiting;
-          unwarned = refl;
+          warned = subst (λ (w : Waiting). KnownWait w) (sym known.waiting) known_at_start;
           corrupt = known.corrupt;
           readable = refl;
           scan = known.scan;
         };
         tasks = record { set = set; arrived = arrived; came = All-nil _ };
         staged = λ c. subst (λ (cs : List Accepted). IsStaged (view (scene_at_start size primary) c) (accepted_of cs c)) (sym commands) refl;
+        apart = λ c q b of_c of_q. absurd (let never : None ≡ Some b = of_c in cc);
+        windows = λ c. omega arith;
         stands = stood size primary own present;
       };
       numbered = omega (arith, arrived);

@@ -1,9 +1,10 @@
 -- A turn in which a read tries a block, or gets it.
 use Rattle.std.proofs.Common.{◌≡◌, ◌≢◌, ℕ, ◌+◌, ◌<◌, ◌≤◌, Bool, true, false, not, cond, eqb, ltb, List, [], ◌∷◌, ◌++◌, length, Option, Some, None, refl, sym, ap, ◌∙◌, subst, arith, ⊎_elim, inl, inr, append-nil}
-use Rattle.std.specs.Prelude.{◌&&◌, ◌||◌, slice_get, IsTrue}
+use Rattle.std.specs.Prelude.{◌&&◌, ◌||◌, slice_get, IsTrue, All}
 use Rattle.std.specs.List.{list_any}
 use Rattle.std.specs.Option.{option_and_then, option_map_or, is_some}
 use Rattle.std.proofs.lemmas.Bool.{eq-eqb, ne_eqb, eqb-true, lt-ltb, or_cases, cases_eq, true≢false}
+use Rattle.std.proofs.lemmas.List.Elements.{All-nil, All-from_recursion}
 use Rattle.disk_base.specs.At.{put_at}
 use Rattle.disk_base.specs.declared.address.Lba.{Lba}
 use Rattle.disk_base.specs.declared.address.Psn.{Psn}
@@ -37,13 +38,14 @@ use Rattle.command_engine.specs.declared.step.Recovery.{Recovery}
 use Rattle.drive_core.specs.Scene.{Scene, capacity, recovered_by, windows_with}
 use Rattle.drive_core.specs.Holds.{holder_besides}
 use Rattle.drive_core.specs.Evidence.{lba, IsGotShown}
-use Rattle.drive_core.specs.GoodTurn.{IsStood, IsAllowed, is_about, is_at_sector, is_one_step, is_on}
+use Rattle.drive_core.specs.GoodTurn.{IsStood, IsAllowed, WritesBlockData, is_about, is_at_sector, is_one_step, is_on}
 use Rattle.drive_core.specs.Fits.{IsPresentMap}
 use Rattle.drive_core.specs.Moves.{beat}
 use Rattle.drive_core.proofs.Tables.{put_at-own, put_at-other}
 use Rattle.drive_core.proofs.Gets.{is_dirty-after_get, allowed-after_get, may_get-allowed}
 use Rattle.drive_core.proofs.Tries.{no_strays-before}
-use Rattle.drive_core.proofs.Halves.{Half, IsQuiet}
+use Rattle.drive_core.proofs.Halves.{Half}
+use Rattle.drive_core.proofs.Doing.{quiet-begun}
 
 -- the command at work when its turn begins
 pub begun-duty : (g : State) (c : ℕ) → (begun g (Work c)).duties c ≡ record (g.duties c) { dirty_then = g.dirty }
@@ -54,21 +56,10 @@ begun-owes g c m plan is_in owes =
     ap (λ (o : Option Member). option_and_then (λ (x : Member). ((begun g (Work c)).duties c).owes) o) is_in
     ∙ (ap (λ (d : Duty). d.owes) (begun-duty g c) ∙ owes)
 
-pub begun-quiet : (g : State) (c : ℕ) → IsQuiet g (begun g (Work c)) c
-begun-quiet g c = record {
-  arrived = refl;
-  set = refl;
-  duties = λ q other. put_at-other c q _ g.duties other;
-  asks = ap (λ (d : Duty). d.asks) (begun-duty g c);
-  settings = refl;
-  waiting = refl;
-  corrupt = refl;
-  scan = refl;
-}
-
 -- operations of a turn about a block that write nothing
 pub record AreQuietAt (s : Scene) (b : Lba) (ops : List Op) : Type 0 where
   pub step : is_one_step ops ≡ true
+  pub written : All (WritesBlockData s.map) ops
   pub about : (q : Lba) → q.0 < capacity s → list_any (is_at_sector (place_of s.map q)) ops ≡ true → q.0 ≡ b.0
   pub keeps : KeepsBlocks s.map s.ops (s.ops ++ ops)
 
@@ -76,6 +67,7 @@ pub record AreQuietAt (s : Scene) (b : Lba) (ops : List Op) : Type 0 where
 pub no_ops : (s : Scene) (b : Lba) → IsPresentMap s.map s.ops → AreQuietAt s b []
 no_ops s b present = record {
   step = refl;
+  written = All-nil (WritesBlockData s.map);
   about = λ q below is. absurd (true≢false (sym is));
   keeps = subst (λ (ops : List Op). KeepsBlocks s.map s.ops ops) (sym (append-nil s.ops)) present.finds;
 }
@@ -86,6 +78,7 @@ pub try_ops : (s : Scene) (b : Lba) (before : ℕ) (stage : Stage) (found : Opti
     → KeepsBlocks s.map s.ops (s.ops ++ try_of before (place_of s.map b) stage found) → AreQuietAt s b (try_of before (place_of s.map b) stage found)
 try_ops s b before stage found own keeps = record {
   step = eq-eqb (place_of s.map b).0 (place_of s.map b).0 refl;
+  written = All-from_recursion (WritesBlockData s.map) (try_of before (place_of s.map b) stage found) (tt, (tt, tt));
   about = λ q below is. own q below (sector_is (place_of s.map q) (place_of s.map b) (either (eqb (place_of s.map b).0 (place_of s.map q).0) is));
   keeps = keeps;
 }
@@ -131,7 +124,7 @@ pub half_none : (s : Scene) (c : ℕ) (m : Member) (plan : Plan) (b : Lba) (ops 
     → Half s c ops [] (begun s.hist (Work c)) plan
 half_none s c m plan b ops is_in owes present stands free quiet = record {
   reached = refl;
-  quiet = begun-quiet s.hist c;
+  quiet = quiet-begun s.hist c;
   unstarted = refl;
   lawful = refl;
   owes = begun-owes s.hist c m plan is_in owes;
@@ -140,6 +133,8 @@ half_none s c m plan b ops is_in owes present stands free quiet = record {
   step = quiet.step;
   b = b;
   one_block = refl;
+  written = quiet.written;
+  own = refl;
   held = λ q below about. free_at s c b q free (quiet.about q below about);
   stands = stood_quiet s b ops present quiet stands;
   settings = refl;
@@ -207,6 +202,8 @@ half_got s c m plan later b v ops is_in owes below present stands free quiet may
       step = quiet.step;
       b = b;
       one_block = and_both (eqb b.0 b.0) true (eq-eqb b.0 b.0 refl) refl;
+      written = quiet.written;
+      own = and_both _ _ (eq-eqb c c refl) refl;
       held = λ q within about. free_at s c b q free (⊎_elim (λ here. sym (eqb-true b.0 q.0 (left (eqb b.0 q.0) here))) (λ there. quiet.about q within there)
           (or_cases (list_any (is_on q) (Get c b v ∷ [])) (list_any (is_at_sector (place_of s.map q)) ops) about));
       stands = stood_got s b v ops present quiet stands is;

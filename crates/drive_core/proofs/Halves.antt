@@ -1,6 +1,6 @@
 -- Half a turn of work: after some entries the command owes a plan. Then it goes on, or ends.
-use Rattle.std.proofs.Common.{◌≡◌, ◌≢◌, ℕ, ◌+◌, ◌<◌, Bool, true, false, not, cond, eqb, List, [], ◌∷◌, ◌++◌, length, Option, Some, None, refl, sym, ap, ◌∙◌, subst, arith, length-append}
-use Rattle.std.specs.Prelude.{◌&&◌, ◌||◌, fold, IsTrue}
+use Rattle.std.proofs.Common.{◌≡◌, ◌≢◌, ℕ, ◌+◌, ◌<◌, ◌≤◌, Bool, true, false, not, cond, eqb, List, [], ◌∷◌, ◌++◌, length, Option, Some, None, refl, sym, ap, ◌∙◌, subst, arith, length-append}
+use Rattle.std.specs.Prelude.{◌&&◌, ◌||◌, fold, IsTrue, All}
 use Rattle.std.specs.List.{list_any, list_all}
 use Rattle.std.specs.Option.{option_and_then, option_map, is_some}
 use Rattle.std.proofs.lemmas.Bool.{eq-eqb, ne_eqb, or_right}
@@ -12,6 +12,7 @@ use Rattle.disk_base.specs.declared.address.Lba.{Lba}
 use Rattle.platter_model.specs.declared.op.Op.{Op}
 use Rattle.platter_model.specs.TrueLog.{strays}
 use Rattle.sense_data.specs.declared.reply.Reply.{Reply}
+use Rattle.task_set.specs.declared.member.Member.{Member}
 use Rattle.task_set.specs.Members.{member_of}
 use Rattle.cdb_reader.specs.declared.plan.Plan.{Plan}
 use Rattle.cdb_reader.specs.declared.plan.Deed.TheVariants as deed
@@ -28,14 +29,19 @@ use Rattle.block_machine.specs.Turns.{is_start, is_end, starts_alone, owes_nothi
 use Rattle.block_machine.proofs.Alongs.{along_both}
 use Rattle.block_machine.proofs.Booleans.{and_both}
 use Rattle.geometry_map.specs.DefectMap.{place_of}
+use Rattle.drive_core.specs.declared.server.Server.{Server}
 use Rattle.drive_core.specs.Scene.{Scene, capacity, scene_after, settings_by, recovered_by, windows_with}
 use Rattle.drive_core.specs.Holds.{held_block, holder_besides}
 use Rattle.drive_core.specs.Evidence.{Shows, IsEndShown}
-use Rattle.drive_core.specs.GoodTurn.{GoodTurn, IsStood, IsOnOneBlock, are_on, is_on, is_about, is_at_sector, is_one_step}
+use Rattle.drive_core.specs.GoodTurn.{GoodTurn, IsStood, IsOnOneBlock, WritesBlockData, is_entry_of, are_on, is_on, is_about, is_at_sector, is_one_step}
+use Rattle.drive_core.specs.Accepting.{accepted_of}
+use Rattle.drive_core.specs.Commands.{view}
+use Rattle.drive_core.specs.Fits.{Fits}
 use Rattle.drive_core.specs.Moves.{beat}
 use Rattle.drive_core.proofs.Tables.{Along-push, put_at-other}
 use Rattle.drive_core.proofs.Keyed.{find-dropped_own, find-dropped_other}
 use Rattle.drive_core.proofs.Elsewhere.{IsAlike}
+use Rattle.drive_core.proofs.Windows.{window_in, windows_work}
 
 -- a state differs from another in blocks and in one command's duty alone
 pub record IsQuiet (g h : State) (c : ℕ) : Type 0 where
@@ -62,6 +68,8 @@ pub record Half (s : Scene) (c : ℕ) (ops : List Op) (entries : List Entry) (h 
   pub step : is_one_step ops ≡ true
   pub b : Lba
   pub one_block : are_on b entries ≡ true
+  pub written : All (WritesBlockData s.map) ops
+  pub own : list_all (is_entry_of c) entries ≡ true
   pub held : (q : Lba) → q.0 < capacity s → is_about s (beat (Work c) entries ops) q ≡ true → holder_besides s c q.0 ≡ None
   pub stands : IsStood s.map (s.ops ++ ops) h.blocks
   pub settings : fold (settings_by s.hist.settings) s.settings entries ≡ s.settings
@@ -76,11 +84,23 @@ alone entries none = ap (λ (b : Bool). not b || eqb (length entries) 1 || list_
 three : (a b c : Bool) → a ≡ true → b ≡ true → c ≡ true → (a && b && c) ≡ true
 three a b c ai bi ci = and_both (a && b) c (and_both a b ai bi) ci
 
+some_of : {X Y : Type 0} (f : X → Option Y) (o : Option X) (y : Y) → option_and_then f o ≡ Some y → is_some o ≡ true
+some_of f None y is = absurd (cc)
+some_of f (Some x) y is = refl
+
+-- the windows after it, with the entries of the half or more
+pub windows_then : (s : Scene) (c : ℕ) (ops : List Op) (entries : List Entry) (h : State) (plan : Plan) (d : Server) → Half s c ops entries h plan → Fits s d
+    → (all : List Entry) (q : ℕ) → length ((scene_after s (beat (Work c) all ops)).windows q) ≤ 50
+windows_then s c ops entries h plan d half fits all =
+    let is_in : is_some (member_of s.hist.set c) ≡ true =
+    ap (λ (ms : List Member). is_some (member_of ms c)) (sym half.quiet.set) ∙ some_of (λ (m : Member). (h.duties c).owes) (member_of h.set c) plan half.owes in
+    windows_work s c all ops (window_in (view s c) (accepted_of d.commands.items c) (fits.staged c) is_in) fits.windows half.step
+
 -- the command goes on, and owes work on blocks
-pub goes_on : (s : Scene) (c : ℕ) (ops : List Op) (entries : List Entry) (h : State) (plan : Plan) → Half s c ops entries h plan
+pub goes_on : (s : Scene) (c : ℕ) (ops : List Op) (entries : List Entry) (h : State) (plan : Plan) (d : Server) → Fits s d → Half s c ops entries h plan
     → owes_nothing_now (Some plan) ≡ true → (not (eqb (length ops) 0) || not (eqb (length entries) 0)) ≡ true
     → GoodTurn s (beat (Work c) entries ops)
-goes_on s c ops entries h plan half settled acts = record {
+goes_on s c ops entries h plan d fits half settled acts = record {
   tasks = three (starts_alone entries) _ _ (alone entries half.unstarted) half.lawful
       (ap (λ (x : State). owes_nothing_now (owed_by x c)) half.reached ∙ (ap owes_nothing_now half.owes ∙ settled));
   blocks = half.blocks;
@@ -88,6 +108,9 @@ goes_on s c ops entries h plan half settled acts = record {
       (append-nil entries) (half.shown []);
   step = (half.step, acts);
   one_block = (half.b, half.one_block);
+  written = half.written;
+  own = half.own;
+  window = windows_then s c ops entries h plan d half fits entries;
   held = half.held;
   stands = subst (λ (x : State). IsStood s.map (s.ops ++ ops) x.blocks) (sym half.reached) half.stands;
 }
@@ -123,11 +146,11 @@ end_about s c ops entries q reply =
     (list_any-append (is_on q) entries (Ended c reply ∷ []) ∙ or_false (list_any (is_on q) entries))
 
 -- the command ends
-pub ends : (s : Scene) (c : ℕ) (ops : List Op) (entries : List Entry) (h : State) (plan later : Plan) (reply : Reply) → Half s c ops entries h plan
+pub ends : (s : Scene) (c : ℕ) (ops : List Op) (entries : List Entry) (h : State) (plan later : Plan) (reply : Reply) (d : Server) → Fits s d → Half s c ops entries h plan
     → next plan (deed.Ended reply (names_dirty h reply)) ≡ Some later → ends_as_told (Some plan) (h.duties c) reply ≡ true
     → IsEndShown s (beat (Work c) (entries ++ Ended c reply ∷ []) ops) c (Some plan) reply
     → GoodTurn s (beat (Work c) (entries ++ Ended c reply ∷ []) ops)
-ends s c ops entries h plan later reply half may told end_shown =
+ends s c ops entries h plan later reply d fits half may told end_shown =
     let step : State → Entry → State = entry_after (capacity s) (Work c) in
     let start : State = begun s.hist (Work c) in
     let more : List Entry = Ended c reply ∷ [] in
@@ -153,6 +176,9 @@ ends s c ops entries h plan later reply half may told end_shown =
           (half.shown (Ended c reply ∷ [])) (subst Shown (sym half.reached) here);
       step = (half.step, or_right _ _ (not_empty entries (Ended c reply)));
       one_block = (half.b, list_all-append _ entries (Ended c reply ∷ []) ∙ and_both _ _ half.one_block refl);
+      written = half.written;
+      own = list_all-append _ entries (Ended c reply ∷ []) ∙ and_both _ _ half.own (and_both _ _ (eq-eqb c c refl) refl);
+      window = windows_then s c ops entries h plan d half fits (entries ++ Ended c reply ∷ []);
       held = λ q below about. half.held q below (sym (end_about s c ops entries q reply) ∙ about);
       stands = subst (λ (x : State). IsStood s.map (s.ops ++ ops) x.blocks) (sym reached) half.stands;
     }

@@ -46,6 +46,7 @@ use Rattle.drive_core.specs.Hardening.{Hardens}
 use Rattle.drive_core.specs.Moves.{Moves, beat}
 use Rattle.drive_core.proofs.Tables.{put_at-own, put_at-other}
 use Rattle.drive_core.proofs.Halves.{Half, goes_on, ends}
+use Rattle.drive_core.proofs.Apart.{HoldsAlone}
 use Rattle.drive_core.proofs.Fitting.{after_half, after_end, fits_on, fits_end, reached-end}
 use Rattle.drive_core.proofs.Closing.{Goes, Stops, has_ops, moves_on, moves_end}
 use Rattle.drive_core.proofs.HardenTurns.{IsHarden, hardened_blocks, hardened-newest, dirty-newest, unstrayed}
@@ -117,13 +118,14 @@ module _ (s : Scene) (d e : Server) (c : ℕ) (b : Lba) (bytes : List ℕ) (turn
       (blocks_are : h.blocks ≡ hardened_blocks s b) (order : h.dirty ≡ without_address b.0 s.hist.dirty) where
     -- the command goes on
     pub harden_on : (a : Accepted) → owes_nothing_now (Some plan) ≡ true → None ≡ ended_in s half
-        → IsCommand (view (after_half s c (op_of s b bytes ∷ []) half) c) a → Goes d e c a half entries told → Moves (Work c) s d e entries told
-    harden_on a settled none own goes =
+        → IsCommand (view (after_half s c (op_of s b bytes ∷ []) half) c) a → HoldsAlone s c ((after_half s c (op_of s b bytes ∷ []) half).windows c) plan
+        → Goes d e c a half entries told → Moves (Work c) s d e entries told
+    harden_on a settled none own alone goes =
         let t : Scene = after_half s c (op_of s b bytes ∷ []) half in
         moves_on s c (op_of s b bytes ∷ []) half entries h plan d e a told is
-        (goes_on s c (op_of s b bytes ∷ []) half h plan is settled refl)
+        (goes_on s c (op_of s b bytes ∷ []) half h plan d turn.fits is settled refl)
         (fits_on s c (op_of s b bytes ∷ []) half h plan d e a is turn.fits goes.set goes.arrived goes.known goes.replaces (has t refl refl)
-        (cached t half refl refl refl refl (ap (λ (x : State). x.blocks) is.reached ∙ blocks_are) (ap (λ (x : State). x.dirty) is.reached ∙ order)) own)
+        (cached t half refl refl refl refl (ap (λ (x : State). x.blocks) is.reached ∙ blocks_are) (ap (λ (x : State). x.dirty) is.reached ∙ order)) own alone)
         goes added none
 
     -- or ends
@@ -135,7 +137,7 @@ module _ (s : Scene) (d e : Server) (c : ℕ) (b : Lba) (bytes : List ℕ) (turn
         let t : Scene = after_end s c (op_of s b bytes ∷ []) half reply in
         let reached : t.hist ≡ entry_after (capacity s) (Work c) h (Ended c reply) = reached-end s c (op_of s b bytes ∷ []) half h plan reply is in
         moves_end s c (op_of s b bytes ∷ []) half entries h plan d e reply told is
-        (ends s c (op_of s b bytes ∷ []) half h plan Over reply is may told_so shown)
+        (ends s c (op_of s b bytes ∷ []) half h plan Over reply d turn.fits is may told_so shown)
         (fits_end s c (op_of s b bytes ∷ []) half h plan reply d e is turn.fits stops.left (has t refl refl)
         (cached t (half ++ Ended c reply ∷ []) refl refl refl refl (ap (λ (x : State). x.blocks) reached ∙ blocks_are) (ap (λ (x : State). x.dirty) reached ∙ order)))
         stops turn.fits added ended

@@ -5,6 +5,7 @@ use Rattle.std.specs.List.{list_any, list_all}
 use Rattle.std.specs.Option.{option_and_then, option_map, option_map_or}
 use Rattle.std.proofs.lemmas.Bool.{eq-eqb, ne_eqb, eqb-true, cases_eq, lt-ltb}
 use Rattle.std.proofs.lemmas.Slice.Eq.{bytes_eq-Decides}
+use Rattle.std.proofs.lemmas.List.Elements.{All-from_recursion}
 use Rattle.disk_base.specs.Along.{Along}
 use Rattle.disk_base.specs.At.{put_at}
 use Rattle.disk_base.specs.declared.address.Lba.{Lba}
@@ -39,7 +40,7 @@ use Rattle.block_machine.proofs.Booleans.{and_both}
 use Rattle.drive_core.specs.Scene.{Scene, capacity}
 use Rattle.drive_core.specs.Holds.{held_block, held_by_plan, holder_besides, holds}
 use Rattle.drive_core.specs.Evidence.{Shows}
-use Rattle.drive_core.specs.GoodTurn.{IsAllowed, IsStood, is_about, is_on, is_at_sector}
+use Rattle.drive_core.specs.GoodTurn.{IsAllowed, IsStood, is_about, is_on, is_at_sector, WritesBlockData}
 use Rattle.drive_core.specs.Moves.{beat}
 use Rattle.drive_core.proofs.Tables.{put_at-own, put_at-other}
 use Rattle.drive_core.proofs.Halves.{Half}
@@ -184,6 +185,8 @@ half_hardened s c b bytes plan then_plan is owes may =
       step = refl;
       b = b;
       one_block = and_both _ _ (eq-eqb b.0 b.0 refl) refl;
+      written = All-from_recursion (WritesBlockData s.map) (Wrote (placed s.map b bytes) ∷ []) ((b, bytes, is.below, refl), tt);
+      own = and_both _ _ (eq-eqb c c refl) refl;
       held = λ q below about. let same = written_about s b q bytes is.own_sector below about in ap (λ (n : ℕ). holder_besides s c n) same ∙ is.free;
       stands = stood_hardened s c b bytes is;
       settings = refl;

@@ -33,6 +33,7 @@ use Rattle.drive_core.specs.Evidence.{lba}
 use Rattle.drive_core.specs.Served.{is_served_plan}
 use Rattle.drive_core.specs.Commands.{View, view, IsTrying, IsAtBlock, IsWorking}
 use Rattle.drive_core.specs.Fits.{IsCached, Fits}
+use Rattle.drive_core.proofs.Windows.{empty_tried}
 use Rattle.drive_core.proofs.Tries.{next_stage-at}
 use Rattle.drive_core.proofs.Placing.{there}
 use Rattle.drive_core.proofs.FirstDirty.{none_of_cache, least_of_cache, first_dirty-is}
@@ -76,7 +77,7 @@ tried-read : (v : View) (r : reading.Reading) (p : Progress) (b : Lba) (o : Opti
 tried-read v r p b None at is some = absurd (cc)
 tried-read v r p b (Some stage) at is some =
     let number : stage.number ≡ p.failed = numbered p.retry p.failed stage (next_stage-at p stage is).1 in
-    let tried : ltb 0 stage.number ≡ not (eqb (length v.window) 0) = ap (ltb 0) number ∙ (positive p.failed ∙ sym (ap not at.fresh)) in
+    let tried : ltb 0 stage.number ≡ not (eqb (length v.window) 0) = ap (ltb 0) number ∙ (positive p.failed ∙ sym (ap not (empty_tried (length v.window) p.failed at.tried))) in
     ap (λ (t : Bool). eqb r.at b.0 && (t || r.hardened)) tried
     ∙ held_as (eqb r.at b.0) (not (eqb (length v.window) 0) || r.hardened) r.at b.0 refl
 

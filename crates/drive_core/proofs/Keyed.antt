@@ -93,3 +93,31 @@ module _ {X : Type 0} (key : X → ℕ) where
     where
       at_passes : (p : X → Bool) (zs : List X) (k : ℕ) (x : X) → position p zs ≡ Some k → slice_get zs k ≡ Some x → p x ≡ true
       at_passes p zs k x placed there = subst (λ (z : X). p z ≡ true) (get_or_from_slice_get zs k x x there) (position-Some p zs k x placed).1
+
+  -- where those are kept whose number passes a test
+  kept_own : (b : Bool) (q : ℕ) (x : X) (kept : List X) (left : Option X) → eqb (key x) q ≡ true → find (λ y. eqb (key y) q) kept ≡ cond b left None
+      → find (λ y. eqb (key y) q) (cond b (x ∷ kept) kept) ≡ cond b (Some x) None
+  kept_own true q x kept left e rest = ap (λ (t : Bool). cond t (Some x) (find (λ y. eqb (key y) q) kept)) e
+  kept_own false q x kept left e rest = rest
+
+  kept_past : (b : Bool) (q : ℕ) (x : X) (kept : List X) → eqb (key x) q ≡ false
+      → find (λ y. eqb (key y) q) (cond b (x ∷ kept) kept) ≡ find (λ y. eqb (key y) q) kept
+  kept_past true q x kept e = ap (λ (t : Bool). cond t (Some x) (find (λ y. eqb (key y) q) kept)) e
+  kept_past false q x kept e = refl
+
+  pub find-kept : (p : ℕ → Bool) (q : ℕ) (xs : List X)
+      → find (λ x. eqb (key x) q) (filter (λ x. p (key x)) xs) ≡ cond (p q) (find (λ x. eqb (key x) q) xs) None
+  find-kept p q [] = none_kept (p q)
+    where
+      none_kept : (b : Bool) → (let none : Option X = None in none ≡ cond b none none)
+      none_kept true = refl
+      none_kept false = refl
+  find-kept p q (x ∷ xs) = by (find-kept p q xs) (eqb (key x) q) refl
+    where
+      by : find (λ y. eqb (key y) q) (filter (λ y. p (key y)) xs) ≡ cond (p q) (find (λ y. eqb (key y) q) xs) None → (b : Bool) → eqb (key x) q ≡ b
+          → find (λ y. eqb (key y) q) (cond (p (key x)) (x ∷ filter (λ y. p (key y)) xs) (filter (λ y. p (key y)) xs))
+          ≡ cond (p q) (cond b (Some x) (find (λ y. eqb (key y) q) xs)) None
+      by rest true e =
+          ap (λ (n : ℕ). find (λ y. eqb (key y) q) (cond (p n) (x ∷ filter (λ y. p (key y)) xs) (filter (λ y. p (key y)) xs))) (eqb-true (key x) q e)
+          ∙ kept_own (p q) q x (filter (λ y. p (key y)) xs) (find (λ y. eqb (key y) q) xs) e rest
+      by rest false e = kept_past (p (key x)) q x (filter (λ y. p (key y)) xs) e ∙ rest

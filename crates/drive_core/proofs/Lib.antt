@@ -3,6 +3,7 @@ pub mod Keyed
 pub mod Placing
 pub mod Settling
 pub mod Pushes
+pub mod GoodRuns
 pub mod Elsewhere
 pub mod Halves
 pub mod LeftOut
@@ -18,7 +19,10 @@ pub mod Doing
 pub mod HardenTurns
 pub mod Gets
 pub mod Tries
+pub mod Windows
+pub mod TurnExamples
 pub mod Parts
+pub mod Apart
 pub mod Fitting
 pub mod HardenParts
 pub mod GetTurns
@@ -37,12 +41,17 @@ pub mod Hardens
 pub mod Syncs
 pub mod WorldTurns
 pub mod Serves
+pub mod Unmoved
 pub mod ArrivalTurns
+pub mod Leaving
+pub mod AskedTurns
 pub mod Holding
 pub mod Walking
 pub mod Throughs
 pub mod FirstPlans
 pub mod StartTurns
+pub mod DefectPages
+pub mod StartPages
 pub mod Advancing
 pub mod DriveTurns
 pub mod Fresh

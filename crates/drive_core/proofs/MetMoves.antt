@@ -37,7 +37,7 @@ use Rattle.drive_core.specs.declared.accepted.Accepted.{Accepted}
 use Rattle.drive_core.specs.declared.server.Server.{Server}
 use Rattle.drive_core.specs.declared.answer.Ended as told_end
 use Rattle.drive_core.specs.Scene.{Scene, capacity, last_found, window_after}
-use Rattle.drive_core.specs.Holds.{held_by_plan, held_block}
+use Rattle.drive_core.specs.Holds.{held_by_plan, held_block, holder_besides}
 use Rattle.drive_core.specs.Evidence.{lba}
 use Rattle.drive_core.specs.Commands.{view, IsWorking, IsCommand, IsTrying, IsOwnRange, IsOwnRecovery}
 use Rattle.drive_core.specs.Hardening.{hardened_at}
@@ -45,6 +45,7 @@ use Rattle.drive_core.specs.Moves.{Moves, beat}
 use Rattle.read_recovery.proofs.Table.{plain_stage}
 use Rattle.drive_core.proofs.Tables.{put_at-own}
 use Rattle.drive_core.proofs.Halves.{Half}
+use Rattle.drive_core.proofs.Apart.{holds_next}
 use Rattle.drive_core.proofs.Fitting.{after_half}
 use Rattle.drive_core.proofs.Closing.{Goes, Stops}
 use Rattle.drive_core.proofs.Doing.{owed-begun, hardened_duty, passed_owes}
@@ -100,6 +101,7 @@ module _ (s : Scene) (c : ℕ) (m : Member) (settings : Settings) (gives : Bool)
           started = working.started;
           owes = duty;
           settings = working.settings;
+          retry = working.retry;
           recovered = working.recovered;
           at_block = record {
             left = left;
@@ -107,7 +109,7 @@ module _ (s : Scene) (c : ℕ) (m : Member) (settings : Settings) (gives : Bool)
             retry = sym (ap (λ (x : Settings). x.retry) working.settings);
             failed = λ k x below here. absurd (omega arith);
             unfound = ap last_found window;
-            fresh = ap (λ (w : List Op). eqb (length w) 0) window;
+            tried = ap length window;
             clean = ap (λ (o : Option ℕ). option_map_or (λ k. is_dirty (t.hist.blocks k)) o false) held ∙ clean_there;
           };
           range = working.range;
@@ -131,4 +133,7 @@ module _ (s : Scene) (c : ℕ) (m : Member) (settings : Settings) (gives : Bool)
       half_hardened s c b bytes (Reading r) (Reading (record r { hardened = true })) turn.is (owed_is s c m (Reading r) is_in working.owes) (next-through r b left through fresh at) in
       harden_on s d e c b bytes turn (Harden (Command c) b ∷ []) entries (steps.entry_after (capacity s) (Work c) (steps.begun s.hist (Work c)) (Harden (Command c) b))
       (Reading (record r { hardened = true })) told half refl refl (record a { work = Some (hardened_at b (met_course (Reading r))) }) refl refl
-      (staged_through r a (op_of s b bytes ∷ []) is_in working turn.is left through fresh at) (goes on)
+      (staged_through r a (op_of s b bytes ∷ []) is_in working turn.is left through fresh at)
+      (holds_next s c ((after_half s c (op_of s b bytes ∷ []) (Harden (Command c) b ∷ [])).windows c) (record r { hardened = true })
+      (ap (holder_besides s c) (sym at) ∙ turn.is.free))
+      (goes on)

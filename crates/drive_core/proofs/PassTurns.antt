@@ -1,6 +1,7 @@
 -- Half a turn in which a sync passes over blocks, and may harden the one behind them.
 use Rattle.std.proofs.Common.{◌≡◌, ◌≢◌, ℕ, ◌+◌, ◌<◌, ◌≤◌, Bool, true, false, List, [], ◌∷◌, ◌++◌, Option, Some, None, refl, sym, ap, ◌∙◌, subst, arith, append-nil, eqb, not, length}
 use Rattle.std.proofs.lemmas.Bool.{eq-eqb, lt-ltb, le-leb, true≢false}
+use Rattle.std.proofs.lemmas.List.Elements.{All-nil, All-from_recursion}
 use Rattle.disk_base.specs.declared.address.Lba.{Lba}
 use Rattle.disk_base.specs.declared.block.Value.TheVariants.{Data}
 use Rattle.platter_model.specs.declared.op.Op.TheVariants.{Wrote}
@@ -18,7 +19,7 @@ use Rattle.block_machine.specs.Steps.{begun, entry_after}
 use Rattle.block_machine.proofs.Booleans.{and_both}
 use Rattle.drive_core.specs.Scene.{Scene, capacity}
 use Rattle.drive_core.specs.Holds.{holder_besides}
-use Rattle.drive_core.specs.GoodTurn.{IsStood}
+use Rattle.drive_core.specs.GoodTurn.{IsStood, WritesBlockData}
 use Rattle.drive_core.proofs.Halves.{Half}
 use Rattle.drive_core.proofs.Doing.{quiet-begun, owed-begun, quiet-trans, hardened_owes, hardened_quiet, hardened_lawful, passed_owes, passed_quiet, passed_lawful}
 use Rattle.drive_core.proofs.HardenTurns.{IsHarden, dirty-newest, written_about, stood_hardened, undirtied_hardened, writes_newest}
@@ -52,6 +53,8 @@ half_passed_hardened s c from b bytes plan passed then_plan is owes may_pass may
       step = refl;
       b = b;
       one_block = and_both _ _ (eq-eqb b.0 b.0 refl) refl;
+      written = All-from_recursion (WritesBlockData s.map) (Wrote (placed s.map b bytes) ∷ []) ((b, bytes, is.below, refl), tt);
+      own = and_both _ _ (eq-eqb c c refl) (and_both _ _ (eq-eqb c c refl) refl);
       held = λ q below about. let same = written_about s b q bytes is.own_sector below about in ap (λ (n : ℕ). holder_besides s c n) same ∙ is.free;
       stands = stood_hardened s c b bytes is;
       settings = refl;
@@ -77,6 +80,8 @@ half_passed s c from to plan then_plan stood owes may high clean =
       step = refl;
       b = from;
       one_block = refl;
+      written = All-nil (WritesBlockData s.map);
+      own = and_both _ _ (eq-eqb c c refl) refl;
       held = λ q below about. absurd (true≢false (sym about));
       stands = subst (λ ops. IsStood s.map ops s.hist.blocks) (sym (append-nil s.ops)) stood;
       settings = refl;

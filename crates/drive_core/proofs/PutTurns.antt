@@ -6,6 +6,7 @@ use Rattle.std.specs.Option.{is_some}
 use Rattle.std.proofs.lemmas.Bool.{eq-eqb, ne_eqb, eqb-true, cases_eq, lt-ltb}
 use Rattle.std.proofs.lemmas.List.{append-nil}
 use Rattle.std.proofs.lemmas.List.Folds.{list_any-append}
+use Rattle.std.proofs.lemmas.List.Elements.{All-nil, All-from_recursion}
 use Rattle.platter_model.proofs.Lists.{slice_get-last}
 use Rattle.disk_base.specs.At.{put_at}
 use Rattle.disk_base.specs.declared.address.Lba.{Lba}
@@ -37,7 +38,7 @@ use Rattle.block_machine.specs.Entries.{entry_lawful}
 use Rattle.block_machine.proofs.Booleans.{and_both}
 use Rattle.drive_core.specs.Scene.{Scene, capacity}
 use Rattle.drive_core.specs.Holds.{held_block, holder_besides}
-use Rattle.drive_core.specs.GoodTurn.{IsStood, is_about}
+use Rattle.drive_core.specs.GoodTurn.{IsStood, is_about, WritesBlockData}
 use Rattle.drive_core.specs.Moves.{beat}
 use Rattle.drive_core.proofs.Tables.{put_at-own, put_at-other}
 use Rattle.drive_core.proofs.Halves.{Half, IsQuiet}
@@ -147,6 +148,8 @@ half_put s c b bytes plan then_plan is owes may =
       step = refl;
       b = b;
       one_block = and_both _ _ (eq-eqb b.0 b.0 refl) refl;
+      written = All-nil (WritesBlockData s.map);
+      own = and_both _ _ (eq-eqb c c refl) refl;
       held = λ q below about. ap (λ (n : ℕ). holder_besides s c n) (put_about b.0 q.0 about) ∙ is.free;
       stands = subst (λ (ops : List Op). IsStood s.map ops (put_blocks s b bytes)) (sym (append-nil s.ops)) (stood_put s b bytes is.stood);
       settings = refl;
@@ -226,6 +229,8 @@ half_through s c b bytes plan put_plan then_plan is owes may may_harden =
       step = refl;
       b = b;
       one_block = and_both _ _ (eq-eqb b.0 b.0 refl) (and_both _ _ (eq-eqb b.0 b.0 refl) refl);
+      written = All-from_recursion (WritesBlockData s.map) (Wrote (placed s.map b bytes) ∷ []) ((b, bytes, is.put.below, refl), tt);
+      own = and_both _ _ (eq-eqb c c refl) (and_both _ _ (eq-eqb c c refl) refl);
       held = λ q below about. ap (λ (n : ℕ). holder_besides s c n) (through_about s b q is.own_sector below about) ∙ is.put.free;
       stands = stood_written s.map s.ops (s.ops ++ Wrote (placed s.map b bytes) ∷ []) b bytes s.hist.blocks (through_blocks s b bytes)
           (unstrayed s.ops _) is.put.stood is.may_be is.stores is.keeps (through-own s b bytes) (through-other s b bytes);

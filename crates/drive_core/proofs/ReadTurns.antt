@@ -4,7 +4,7 @@ use Rattle.std.specs.Prelude.{◌&&◌, ◌||◌, slice_get, IsTrue, Result}
 use Rattle.sense_data.specs.declared.sense.Sense.{Sense}
 use Rattle.cdb_reader.specs.Request.{Request}
 use Rattle.std.specs.Option.{option_and_then, option_map_or, is_none, is_some}
-use Rattle.std.proofs.lemmas.Bool.{eq-eqb, ne_eqb, eqb-true, lt-ltb, ltb-true, and_left, and_right}
+use Rattle.std.proofs.lemmas.Bool.{eq-eqb, eqb-true, lt-ltb, ltb-true, and_left, and_right}
 use Rattle.disk_base.specs.declared.address.Lba.{Lba}
 use Rattle.disk_base.specs.declared.block.Value.{Value}
 use Rattle.disk_base.specs.declared.block.Value.TheVariants.{Data, Lost}
@@ -43,7 +43,7 @@ use Rattle.drive_core.specs.Evidence.{lba, FailedBelow}
 use Rattle.drive_core.specs.Commands.{View, view, IsTrying, IsWorking, IsCommand, IsOwnRange, IsOwnRecovery}
 use Rattle.drive_core.specs.Moves.{beat}
 use Rattle.drive_core.proofs.Tables.{put_at-own}
-use Rattle.drive_core.proofs.Tries.{last_found-try, not_empty-try, failed-next, next_stage-at}
+use Rattle.drive_core.proofs.Tries.{last_found-try, length-try, failed-next, next_stage-at}
 use Rattle.drive_core.proofs.GetTurns.{recovered-got, got_state, got-duty, begun-owes, begun-duty}
 use Rattle.drive_core.proofs.Fitting.{after_half}
 
@@ -71,7 +71,7 @@ module _ (s : Scene) (c : ℕ) (m : Member) (settings : Settings) (gives : Bool)
 
   -- a member is in after half a turn too
   -- the window of the command is empty behind a get
-  window-got : (v : Value) (ops : List Op) → (after_half s c ops (Get c (lba r.at) v ∷ [])).windows c ≡ []
+  pub window-got : (v : Value) (ops : List Op) → (after_half s c ops (Get c (lba r.at) v ∷ [])).windows c ≡ []
   window-got v ops =
       put_at-own c (window_after c (s.windows c) (beat (Work c) (Get c (lba r.at) v ∷ []) ops)) s.windows
       ∙ ap (λ (b : Bool). cond (b || false) [] (s.windows c ++ ops)) (eq-eqb c c refl)
@@ -148,6 +148,7 @@ module _ (s : Scene) (c : ℕ) (m : Member) (settings : Settings) (gives : Bool)
           started = working.started;
           owes = duty;
           settings = working.settings;
+          retry = working.retry;
           recovered = recovered-is bytes ops next_is working.recovered by;
           at_block = record {
             left = more;
@@ -155,7 +156,7 @@ module _ (s : Scene) (c : ℕ) (m : Member) (settings : Settings) (gives : Bool)
             retry = sym (ap (λ (x : Settings). x.retry) working.settings);
             failed = λ k x below here. absurd (omega arith);
             unfound = ap last_found window;
-            fresh = ap (λ (w : List Op). eqb (length w) 0) window;
+            tried = ap length window;
             clean = ap (λ (o : Option ℕ). option_map_or (λ b. is_dirty (t.hist.blocks b)) o false) held;
           };
           range = working.range;
@@ -176,6 +177,7 @@ module _ (s : Scene) (c : ℕ) (m : Member) (settings : Settings) (gives : Bool)
       let t : Scene = after_half s c (try_of before (place_of s.map (lba r.at)) stage None) [] in
       let trying : IsTrying (view s c) r p = working.at_block in
       let window : t.windows c ≡ s.windows c ++ try_of before (place_of s.map (lba r.at)) stage None = window-none (try_of before (place_of s.map (lba r.at)) stage None) in
+      let long : length (t.windows c) ≡ length (s.windows c) + 2 = ap length window ∙ length-try (s.windows c) before (place_of s.map (lba r.at)) stage None in
       let owes : owed_by t.hist c ≡ Some (Reading r) = begun-owes s.hist c m (Reading r) is_in working.owes in
       let at : slice_get (stages_of p.retry) p.failed ≡ Some stage = (next_stage-at p stage next_is).1 in
       let held : held_block t c ≡ cond (not (eqb (length (s.windows c ++ ops)) 0) || r.hardened) (Some r.at) None =
@@ -194,6 +196,7 @@ module _ (s : Scene) (c : ℕ) (m : Member) (settings : Settings) (gives : Bool)
         started = working.started;
         owes = ap (λ (d : Duty). d.owes) (begun-duty s.hist c) ∙ working.owes;
         settings = working.settings;
+        retry = working.retry;
         recovered = working.recovered;
         at_block = record {
           left = trying.left;
@@ -202,8 +205,7 @@ module _ (s : Scene) (c : ℕ) (m : Member) (settings : Settings) (gives : Bool)
           failed = subst (λ (w : List Op). FailedBelow w (place_of s.map (lba r.at)) p.retry (p.failed + 1)) (sym window)
               (failed-next (s.windows c) before (place_of s.map (lba r.at)) p.retry p.failed stage at trying.failed);
           unfound = ap last_found window ∙ last_found-try (s.windows c) before (place_of s.map (lba r.at)) stage None;
-          fresh = ap (λ (w : List Op). eqb (length w) 0) window ∙ (not_empty-try (s.windows c) before (place_of s.map (lba r.at)) stage None
-              ∙ sym (ne_eqb (p.failed + 1) 0 (λ none. absurd (omega arith))));
+          tried = omega (arith, long, trying.tried);
           clean = ap (λ (o : Option ℕ). option_map_or (λ b. is_dirty (t.hist.blocks b)) o false) held
               ∙ no_dirty_held t (not (eqb (length (s.windows c ++ ops)) 0) || r.hardened) undirty;
         };

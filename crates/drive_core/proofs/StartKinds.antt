@@ -1,13 +1,10 @@
 -- What the commands that are served begin with: the blocks that each works on, and its plan.
 use Rattle.std.proofs.Common.{◌≡◌, ◌≢◌, ℕ, ◌+◌, ◌≤◌, ◌<◌, Bool, true, false, not, cond, eqb, leb, List, [], ◌∷◌, Option, Some, None, refl, sym, ap, ◌∙◌, subst, arith}
 use Rattle.std.specs.Prelude.{◌^◌, ◌&&◌, ◌||◌, unwrap_or, IsTrue, Result, Ok, Err}
-use Rattle.std.specs.Option.{option_map_or}
-use Rattle.sense_data.specs.Sense.{sense_of}
 use Rattle.std.proofs.lemmas.Bool.{eqb-false, leb-true, le-leb, and_parts}
 use Rattle.disk_base.specs.declared.command.DataOut.{DataOut}
 use Rattle.disk_base.specs.declared.command.DataOut.TheVariants.{Nothing}
 use Rattle.sense_data.specs.declared.sense.Sense.{Sense}
-use Rattle.sense_data.specs.Attentions.{none_waiting}
 use Rattle.mode_pages.specs.declared.settings.Settings.{Settings}
 use Rattle.read_recovery.specs.Stages as progress
 use Rattle.cdb_reader.specs.declared.command.Command.{Command}
@@ -24,7 +21,7 @@ use Rattle.command_engine.specs.Need.{end_of}
 use Rattle.block_machine.specs.declared.entry.Entry.{Entry}
 use Rattle.block_machine.specs.declared.entry.Entry.TheVariants.{Started}
 use Rattle.block_machine.specs.declared.turn.Label.TheVariants.{Work}
-use Rattle.block_machine.specs.Plans.{first_plan, plan_unless_refused, plan_asked, refusing, is_medium}
+use Rattle.block_machine.specs.Plans.{answering, answering_sensed, plan_asked}
 use Rattle.block_machine.specs.State.{State, Duty, initiator_of}
 use Rattle.block_machine.specs.Turns.{owes_nothing_now}
 use Rattle.block_machine.proofs.Booleans.{and_both}
@@ -41,8 +38,8 @@ use Rattle.drive_core.specs.Moves.{Moves, MayWork}
 use Rattle.drive_core.specs.Served.{is_served, is_served_plan}
 use Rattle.drive_core.specs.Starting.{IsFirst}
 use Rattle.task_set.specs.Members.{with_started}
-use Rattle.drive_core.proofs.FirstPlans.{not_met, tells}
-use Rattle.drive_core.proofs.StartTurns.{MayStart, may_start, IsStartOf, BeginsWork, begins_with_work, plan_of_start, not_empty, few_blocks, first_read, starts_working}
+use Rattle.drive_core.proofs.FirstPlans.{plan_of_request, tells}
+use Rattle.drive_core.proofs.StartTurns.{MayStart, may_start, IsStartOf, BeginsWork, IsWork, begins_with_work, no_ending, plan_of_start, not_empty, few_blocks, first_read, starts_working}
 
 -- a request that works on blocks which it names by a range
 pub data IsOnBlocks : Request → Type 0 where
@@ -52,24 +49,32 @@ pub data IsOnBlocks : Request → Type 0 where
   verifies : (from count : ℕ) → IsOnBlocks (Verify from count)
   syncs : (from count : ℕ) → IsOnBlocks (SynchronizeCache from count)
 
--- what is served is such a request
-on_blocks : (r : Request) → is_served (Ok r) ≡ true → IsOnBlocks r
-on_blocks (Read from count fua) served = reads from count fua
-on_blocks (Write from count fua) served = writes from count fua
-on_blocks (WriteAndVerify from count) served = writes_verified from count
-on_blocks (Verify from count) served = verifies from count
-on_blocks (SynchronizeCache from count) served = syncs from count
-on_blocks request.TestUnitReady served = absurd (cc)
-on_blocks (request.RequestSense allocation) served = absurd (cc)
-on_blocks (request.ReassignBlocks blocks) served = absurd (cc)
-on_blocks (request.Inquiry evpd page allocation) served = absurd (cc)
-on_blocks (request.ModeSelect ten count) served = absurd (cc)
-on_blocks (request.ModeSense ten dbd control page subpage allocation) served = absurd (cc)
-on_blocks request.ReadCapacity10 served = absurd (cc)
-on_blocks (request.ReadDefectData primary grown format allocation) served = absurd (cc)
-on_blocks (request.LogSense page subpage pointer allocation) served = absurd (cc)
-on_blocks (request.ReadCapacity16 allocation) served = absurd (cc)
-on_blocks (request.ReportLuns select allocation) served = absurd (cc)
+-- what is served and has work is such a request
+no_answer : (allocation : ℕ) (o : Option (List ℕ)) → IsWork (answering allocation o) → ⊥
+no_answer allocation None work = work
+no_answer allocation (Some bytes) work = work
+
+no_answer_sensed : (r : Result (List ℕ) Sense) → IsWork (answering_sensed r) → ⊥
+no_answer_sensed (Ok bytes) work = work
+no_answer_sensed (Err sense) work = work
+
+on_blocks : (blocks i : ℕ) (h : State) (sent : DataOut) (r : Request) → is_served (Ok r) ≡ true → IsWork (plan_asked blocks h i sent r) → IsOnBlocks r
+on_blocks blocks i h sent (Read from count fua) served work = reads from count fua
+on_blocks blocks i h sent (Write from count fua) served work = writes from count fua
+on_blocks blocks i h sent (WriteAndVerify from count) served work = writes_verified from count
+on_blocks blocks i h sent (Verify from count) served work = verifies from count
+on_blocks blocks i h sent (SynchronizeCache from count) served work = syncs from count
+on_blocks blocks i h sent (request.ReassignBlocks list) served work = absurd (cc)
+on_blocks blocks i h sent (request.ModeSelect ten count) served work = absurd (cc)
+on_blocks blocks i h sent request.TestUnitReady served work = absurd work
+on_blocks blocks i h sent (request.RequestSense allocation) served work = absurd work
+on_blocks blocks i h sent (request.Inquiry evpd page allocation) served work = absurd (no_answer allocation _ work)
+on_blocks blocks i h sent (request.ModeSense ten dbd control page subpage allocation) served work = absurd (no_answer_sensed _ work)
+on_blocks blocks i h sent request.ReadCapacity10 served work = absurd work
+on_blocks blocks i h sent (request.ReadDefectData primary grown format allocation) served work = absurd work
+on_blocks blocks i h sent (request.LogSense page subpage pointer allocation) served work = absurd (no_answer allocation _ work)
+on_blocks blocks i h sent (request.ReadCapacity16 allocation) served work = absurd work
+on_blocks blocks i h sent (request.ReportLuns select allocation) served work = absurd (no_answer allocation _ work)
 
 -- how many blocks it names
 abbrev count_of : Request → ℕ
@@ -89,22 +94,14 @@ work_plan (Verify from count) sent x = reading_from from (from + count) true x.p
 work_plan (SynchronizeCache from count) sent x = Syncing (record { at = from; end = from + count })
 work_plan other sent x = Over
 
--- a command that needs the medium begins with what it asks for, while nothing waits and the map is there
-plan_medium : (capacity i : ℕ) (h : State) (duty : Duty) (request : Request) → h.waiting ≡ none_waiting → h.corrupt ≡ false → duty.asks ≡ Ok request → is_medium request ≡ true
-    → first_plan capacity h i duty ≡ plan_asked capacity h i duty.sent request
-plan_medium capacity i h duty request none readable asks medium =
-    ap (λ (o : Option Sense). option_map_or refusing o (plan_unless_refused capacity h i duty.sent duty.asks)) (not_met h.waiting i duty.code none)
-    ∙ (ap (plan_unless_refused capacity h i duty.sent) asks
-    ∙ (λ j. cond (readable j && medium j) (refusing (sense_of 3 0x31 0x00)) (plan_asked capacity h i duty.sent request)))
-
--- by the history
-first_by_history : (blocks i : ℕ) (h : State) (duty : Duty) (r : Request) → IsOnBlocks r → h.waiting ≡ none_waiting → h.corrupt ≡ false → duty.asks ≡ Ok r
-    → first_plan blocks h i duty ≡ unwrap_or (unless_empty (count_of r) (work_plan r duty.sent h.settings)) Over
-first_by_history blocks i h duty r (reads from count fua) none readable asks = plan_medium blocks i h duty (Read from count fua) none readable asks refl
-first_by_history blocks i h duty r (writes from count fua) none readable asks = plan_medium blocks i h duty (Write from count fua) none readable asks refl
-first_by_history blocks i h duty r (writes_verified from count) none readable asks = plan_medium blocks i h duty (WriteAndVerify from count) none readable asks refl
-first_by_history blocks i h duty r (verifies from count) none readable asks = plan_medium blocks i h duty (Verify from count) none readable asks refl
-first_by_history blocks i h duty r (syncs from count) none readable asks = plan_medium blocks i h duty (SynchronizeCache from count) none readable asks refl
+-- by what it asks for
+asked_of : (blocks i : ℕ) (h : State) (sent : DataOut) (r : Request) → IsOnBlocks r
+    → plan_asked blocks h i sent r ≡ unwrap_or (unless_empty (count_of r) (work_plan r sent h.settings)) Over
+asked_of blocks i h sent r (reads from count fua) = refl
+asked_of blocks i h sent r (writes from count fua) = refl
+asked_of blocks i h sent r (writes_verified from count) = refl
+asked_of blocks i h sent r (verifies from count) = refl
+asked_of blocks i h sent r (syncs from count) = refl
 
 settled : (r : Request) (sent : DataOut) (x : Settings) → IsOnBlocks r → owes_nothing_now (Some (work_plan r sent x)) ≡ true
 settled r sent x (reads from count fua) = refl
@@ -198,10 +195,15 @@ pub begins_on : (s : Scene) (d : Server) (c : ℕ) (command : Command) (first : 
 begins_on s d c command first work none is first_is =
     let may : MayStart s d c = may_start s d c work none in
     let begins : BeginsWork (capacity s) (plan_of_start s c) (s.hist.duties c).asks (s.hist.duties c).sent (request_of command) =
-    begins_with_work (capacity s) (plan_of_start s c) (s.hist.duties c).asks (s.hist.duties c).sent command (subst (IsFirst s c) first_is is) in
-    let on : IsOnBlocks (request_of command) = on_blocks (request_of command) (sym (ap is_served begins.is_for.asked) ∙ may.waiting.served) in
+    begins_with_work s.map (capacity s) (plan_of_start s c) (s.hist.duties c).asks (s.hist.duties c).sent command (subst (IsFirst s c) first_is is) in
+    let asked : plan_of_start s c ≡ plan_asked (capacity s) s.hist (initiator_of s.hist c) (s.hist.duties c).sent (request_of command) =
+    plan_of_request (capacity s) (initiator_of s.hist c) s.hist (s.hist.duties c) (request_of command) work.fits.known.readable begins.is_for.asked
+    (no_ending (plan_of_start s c) begins.work) in
+    let on : IsOnBlocks (request_of command) =
+    on_blocks (capacity s) (initiator_of s.hist c) s.hist (s.hist.duties c).sent (request_of command) (sym (ap is_served begins.is_for.asked) ∙ may.waiting.served)
+    (subst IsWork asked begins.work) in
     let by_rule : plan_of_start s c ≡ unwrap_or (unless_empty (count_of (request_of command)) (work_plan (request_of command) (s.hist.duties c).sent s.hist.settings)) Over =
-    first_by_history (capacity s) (initiator_of s.hist c) s.hist (s.hist.duties c) (request_of command) on work.fits.known.unwarned work.fits.known.readable begins.is_for.asked in
+    asked ∙ asked_of (capacity s) (initiator_of s.hist c) s.hist (s.hist.duties c).sent (request_of command) on in
     let some : eqb (count_of (request_of command)) 0 ≡ false =
     not_empty (count_of (request_of command)) (plan_of_start s c) (work_plan (request_of command) (s.hist.duties c).sent s.hist.settings) by_rule begins.work in
     record {

@@ -3,22 +3,25 @@ use Rattle.std.proofs.Common.{◌≡◌, ◌≢◌, ℕ, ◌+◌, ◌≤◌, ◌
 use Rattle.std.specs.Prelude.{◌^◌, ◌&&◌, ◌||◌, ◌==◌, All, unwrap_or, slice_index, IsTrue, IsSome, IfOk, Result, Ok, Err}
 use Rattle.std.specs.Option.{option_and_then, option_map, option_map_or, is_none, is_some}
 use Rattle.std.proofs.lemmas.Bool.{eq-eqb, ne_eqb, eqb-true, eqb-false, leb-true, le-leb, and_parts}
-use Rattle.std.proofs.lemmas.List.Elements.{All-map, All-weaker, All-filter}
+use Rattle.std.proofs.lemmas.List.Elements.{All-nil, All-map, All-weaker, All-filter}
 use Rattle.platter_model.specs.declared.op.Op.{Op}
 use Rattle.sense_data.specs.declared.reply.Reply.{Reply}
 use Rattle.task_set.specs.declared.member.Member.{Member}
 use Rattle.task_set.specs.Members.{IsIn, member_of, with_started, started_at, without, first_forbidding}
 use Rattle.cdb_reader.specs.declared.plan.Plan.{Plan}
 use Rattle.cdb_reader.specs.declared.command.Command.{Command}
-use Rattle.cdb_reader.specs.declared.plan.Plan.TheVariants.{Ending, Unread, Answering, Changing, Reading, Writing, Syncing, Moving, Over}
+use Rattle.cdb_reader.specs.declared.plan.Plan.TheVariants.{Ending, Answering, Over}
 use Rattle.cdb_reader.specs.declared.plan.Deed.TheVariants as deed
 use Rattle.cdb_reader.specs.Plan.{next, unless_empty, reading_from}
 use Rattle.cdb_reader.specs.Read.{in_range, read_of}
 use Rattle.cdb_reader.specs.Replies.{good}
 use Rattle.cdb_reader.specs.Request.{Request, Read, request_of}
 use Rattle.cdb_reader.specs.Request as request
+use Rattle.sense_data.specs.Attentions.{Waiting}
 use Rattle.sense_data.specs.declared.sense.Sense.{Sense}
-use Rattle.history_replay.specs.Known.{state_of, duty_of}
+use Rattle.history_replay.specs.Known.{state_of, duty_of, with_set}
+use Rattle.history_replay.specs.Warning.{KnownWait, waiting_state}
+use Rattle.history_replay.proofs.KnownWaiting.{known_after}
 use Rattle.drive_core.specs.declared.starting.First.{First}
 use Rattle.drive_core.specs.declared.starting.First.TheVariants as first_variant
 use Rattle.drive_core.specs.Starting.{IsWorkFor, BeginsBy, IsFirstBy, IsFirst}
@@ -38,9 +41,9 @@ use Rattle.block_machine.specs.declared.entry.Entry.{Entry}
 use Rattle.block_machine.specs.declared.entry.Entry.TheVariants.{Started, Ended}
 use Rattle.block_machine.specs.declared.turn.Label.TheVariants.{Work}
 use Rattle.block_machine.specs.State.{State, Duty, initiator_of, owed_by}
-use Rattle.block_machine.specs.Steps.{begun, entry_after, waiting_at_start}
+use Rattle.block_machine.specs.Steps.{begun, entry_after, waiting_after, waiting_at_start}
 use Rattle.block_machine.specs.Plans.{first_plan}
-use Rattle.block_machine.specs.Blocks.{is_dirty}
+use Rattle.block_machine.specs.Blocks.{Blocks, is_dirty}
 use Rattle.block_machine.specs.Deeds.{names_dirty}
 use Rattle.block_machine.specs.Entries.{entry_lawful}
 use Rattle.block_machine.specs.Turns.{owes_nothing_now}
@@ -50,8 +53,8 @@ use Rattle.drive_core.specs.declared.server.Server.{Server}
 use Rattle.drive_core.specs.declared.answer.TurnAnswer.TheVariants as answer
 use Rattle.drive_core.specs.declared.answer.Ended as told_end
 use Rattle.drive_core.specs.Ending.{ended_of_member}
-use Rattle.drive_core.specs.Evidence.{lba, IsEndShown}
-use Rattle.drive_core.specs.GoodTurn.{IsStood}
+use Rattle.drive_core.specs.Evidence.{lba, IsEndShown, page_of}
+use Rattle.drive_core.specs.GoodTurn.{IsStood, WritesBlockData}
 use Rattle.drive_core.specs.Served.{is_served, is_served_plan}
 use Rattle.command_engine.specs.Need.{end_of}
 use Rattle.cdb_reader.specs.declared.plan.Reading as reading
@@ -64,13 +67,15 @@ use Rattle.drive_core.specs.Fits.{Fits, HasOps, IsCached, IsPresentMap, KnowsHis
 use Rattle.drive_core.specs.Moves.{Moves, MayWork, beat}
 use Rattle.drive_core.proofs.Tables.{put_at-own, put_at-other}
 use Rattle.drive_core.proofs.Keyed.{find-dropped_own, find-dropped_other}
-use Rattle.drive_core.proofs.Elsewhere.{staged-alike, all_staged}
+use Rattle.drive_core.proofs.Elsewhere.{IsAlike, held-alike, staged-alike, all_staged}
+use Rattle.drive_core.proofs.Apart.{held_out, apart_none}
 use Rattle.drive_core.proofs.Halves.{end_lawful, over_owes}
+use Rattle.drive_core.proofs.Windows.{windows_work}
 use Rattle.drive_core.proofs.Parts.{cached_got, quiet_got}
-use Rattle.drive_core.proofs.Fitting.{known-quiet}
+use Rattle.drive_core.proofs.Fitting.{known-told}
 use Rattle.drive_core.proofs.Closing.{has_ops}
 use Rattle.drive_core.proofs.GetTurns.{begun-duty}
-use Rattle.drive_core.proofs.FirstPlans.{none_taken, same_reply-own}
+use Rattle.drive_core.proofs.FirstPlans.{IsNoEnding, same_reply-own}
 
 -- a command that may start
 pub record MayStart (s : Scene) (d : Server) (c : ℕ) : Type 0 where
@@ -165,15 +170,19 @@ pub start-owes : (s : Scene) (c : ℕ) (m : Member) → member_of s.hist.set c �
 start-owes s c m is_in =
     ap (λ (o : Option Member). option_and_then (λ (x : Member). ((started_state s c).duties c).owes) o) (find-started_own c s.hist.set m is_in) ∙ start-duty s c
 
--- what a start leaves as it was
+-- the attentions that wait after the start
+abbrev pub waiting_told : Scene → ℕ → Waiting
+waiting_told s c = waiting_at_start s.hist.waiting (initiator_of s.hist c) (s.hist.duties c)
+
+-- what a start leaves as it was, but for the attention that it tells
 pub record IsStartOf (s : Scene) (d e : Server) (c : ℕ) : Type 0 where
   pub fits : Fits s d
   pub may : MayStart s d c
   pub store : e.store ≡ d.store
   pub arrived : e.arrived ≡ d.arrived
-  pub known : e.known ≡ d.known
+  pub known : e.known ≡ record d.known { waiting = waiting_told s c }
 
-start_lawful : (s : Scene) (d : Server) (c : ℕ) → MayStart s d c → entry_lawful (capacity s) (Work c) (begun s.hist (Work c)) (Started c) ≡ true
+pub start_lawful : (s : Scene) (d : Server) (c : ℕ) → MayStart s d c → entry_lawful (capacity s) (Work c) (begun s.hist (Work c)) (Started c) ≡ true
 start_lawful s d c may =
     and_both (eqb c c) _ (eq-eqb c c refl)
     (ap (λ (o : Option Member). option_map_or (λ (m : Member). not m.started && is_none (first_forbidding s.hist.set m.task)) o false) may.is_in
@@ -188,12 +197,29 @@ first_read v r settings left window same clean = record {
   retry = sym (ap (λ (x : Settings). x.retry) same);
   failed = λ k x below here. absurd (omega arith);
   unfound = ap last_found window;
-  fresh = ap (λ (xs : List Op). eqb (length xs) 0) window;
+  tried = ap length window;
   clean = clean;
 }
 
+-- what a scene has after a turn in which a command started and ended
+pub record IsStartedAndEnded (s t : Scene) (c : ℕ) (more : List Entry) : Type 0 where
+  pub map : t.map ≡ s.map
+  pub ops : t.ops ≡ s.ops ++ []
+  pub since : t.since ≡ s.since ++ []
+  pub entries : t.entries ≡ s.entries ++ more
+  pub order : t.hist.dirty ≡ s.hist.dirty
+  pub blocks : t.hist.blocks ≡ s.hist.blocks
+  pub settings : t.hist.settings ≡ s.hist.settings
+  pub waiting : t.hist.waiting ≡ waiting_at_start s.hist.waiting (initiator_of s.hist c) ((begun s.hist (Work c)).duties c)
+  pub corrupt : t.hist.corrupt ≡ s.hist.corrupt
+  pub scan : t.hist.scan ≡ s.hist.scan
+  pub set : t.hist.set ≡ without (with_started s.hist.set c) c
+  pub arrived : t.hist.arrived ≡ s.hist.arrived
+  pub alike : (q : ℕ) → q ≢ c → IsAlike s t q
+  pub windows : (q : ℕ) → length (t.windows q) ≤ 50
+
 module _ (s : Scene) (d e : Server) (c : ℕ) (is : IsStartOf s d e c) where
-  still_stands : IsStood s.map (s.ops ++ []) s.hist.blocks
+  pub still_stands : IsStood s.map (s.ops ++ []) s.hist.blocks
   still_stands = subst (λ (ops : List Op). IsStood s.map ops s.hist.blocks) (sym (append-nil s.ops)) is.fits.stands
 
   store_present : IsPresentMap e.store.map e.store.platter.ops
@@ -202,7 +228,7 @@ module _ (s : Scene) (d e : Server) (c : ℕ) (is : IsStartOf s d e c) where
       (subst (λ (n : DefectMap). IsPresentMap n d.store.platter.ops) (sym is.fits.store.map)
       (subst (λ (ops : List Op). IsPresentMap s.map ops) (sym is.fits.store.ops) is.fits.store.present))
 
-  added : e.store.platter.ops ≡ d.store.platter.ops ++ []
+  pub added : e.store.platter.ops ≡ d.store.platter.ops ++ []
   added = ap (λ (y : Contained). y.platter.ops) is.store ∙ sym (append-nil d.store.platter.ops)
 
   has : (t : Scene) → t.map ≡ s.map → t.ops ≡ s.ops ++ [] → HasOps t e.store
@@ -215,12 +241,52 @@ module _ (s : Scene) (d e : Server) (c : ℕ) (is : IsStartOf s d e c) where
       subst (λ (y : Contained). IsCached t y.cache) (sym is.store)
       (cached_got s t d.store.cache (quiet_got s t more map_is ops_is since_is entries_is order blocks_are) is.fits.cached)
 
+  -- the attentions that wait are the history's
   knows : (t : Scene) → t.map ≡ s.map → t.hist.settings ≡ s.hist.settings → t.hist.waiting ≡ waiting_at_start s.hist.waiting (initiator_of s.hist c) ((begun s.hist (Work c)).duties c)
       → t.hist.corrupt ≡ s.hist.corrupt → t.hist.scan ≡ s.hist.scan → KnowsHistory t e.known
   knows t map_is settings waiting corrupt scan =
-      let served : is_served ((begun s.hist (Work c)).duties c).asks ≡ true = ap (λ (x : Duty). is_served x.asks) (begun-duty s.hist c) ∙ is.may.waiting.served in
+      let told : t.hist.waiting ≡ waiting_told s c = waiting ∙ ap (λ (x : Duty). waiting_at_start s.hist.waiting (initiator_of s.hist c) x) (begun-duty s.hist c) in
+      let warned : KnownWait s.hist.waiting = subst (λ (w : Waiting). KnownWait w) is.fits.known.waiting is.fits.known.warned in
       subst (λ (k : Known). KnowsHistory t k) (sym is.known)
-      (known-quiet s t d.known map_is settings (waiting ∙ none_taken s.hist.waiting (initiator_of s.hist c) ((begun s.hist (Work c)).duties c) is.fits.known.unwarned served) corrupt scan is.fits.known)
+      (known-told s t d.known (waiting_told s c) map_is settings told (known_after (Work c) s.hist (Started c) warned) corrupt scan is.fits.known)
+
+  pub windows : (entries : List Entry) (q : ℕ) → length ((scene_after s (beat (Work c) entries [])).windows q) ≤ 50
+  windows entries = windows_work s c entries [] (omega (arith, ap length is.may.waiting.window)) is.fits.windows refl
+
+  -- the parts of the drive after the command started and ended
+  pub fits_ended : (t : Scene) (more : List Entry) → IsStartedAndEnded s t c more → e.set ≡ without (with_started d.set c) c
+      → Drops d.commands.items e.commands.items c → Fits t e
+  fits_ended t more to set_is drops =
+      let gone : member_of t.hist.set c ≡ None = ap (λ (ms : List Member). member_of ms c) to.set ∙ find-dropped_own (λ (m : Member). m.task.c) c (with_started s.hist.set c) in
+      record {
+        store = has t to.map to.ops;
+        cached = cached t more to.map to.ops to.since to.entries to.order to.blocks;
+        known = knows t to.map to.settings to.waiting to.corrupt to.scan;
+        tasks = record {
+          set = set_is ∙ (ap (λ (ms : List Member). without (with_started ms c) c) is.fits.tasks.set ∙ sym to.set);
+          arrived = is.arrived ∙ (is.fits.tasks.arrived ∙ sym to.arrived);
+          came = subst (λ (n : ℕ). All (λ (m : Member). m.task.c ≤ n) t.hist.set) (sym to.arrived)
+              (subst (λ (ms : List Member). All (λ (m : Member). m.task.c ≤ s.hist.arrived) ms) (sym to.set)
+              (All-filter _ (λ (m : Member). m.task.c ≤ s.hist.arrived) (with_started s.hist.set c) (All-started c s.hist.arrived s.hist.set is.fits.tasks.came)));
+        };
+        staged = all_staged t e.commands.items c
+            (subst (λ (o : Option Accepted). IsStaged (view t c) o) (sym drops.own) gone)
+            (λ q other. staged-alike s t q (accepted_of d.commands.items q) (accepted_of e.commands.items q) (to.alike q other)
+            (drops.others q other) (is.fits.staged q));
+        apart = apart_none s t c is.fits.apart (λ q other. held-alike s t q (to.alike q other)) (held_out t c gone);
+        windows = to.windows;
+        stands = subst (λ (m : DefectMap). IsStood m t.ops t.hist.blocks) (sym to.map)
+            (subst (λ (ops : List Op). IsStood s.map ops t.hist.blocks) (sym to.ops)
+            (subst (λ (bs : Blocks). IsStood s.map (s.ops ++ []) bs) (sym to.blocks) still_stands));
+      }
+
+  -- the command that ended is told as the set had it
+  pub told_as_in : (reply : Reply) (told : Option told_end.Ended) → told ≡ ended_of_member (member_of (with_started d.set c) c) reply
+      → told ≡ ended_of_member (member_of s.hist.set c) reply
+  told_as_in reply told told_is =
+      told_is ∙ (ap (λ (ms : List Member). ended_of_member (member_of (with_started ms c) c) reply) is.fits.tasks.set
+      ∙ (ap (λ (o : Option Member). ended_of_member o reply) (find-started_own c s.hist.set is.may.m is.may.is_in)
+      ∙ sym (ap (λ (o : Option Member). ended_of_member o reply) is.may.is_in)))
 
   -- it ends at once
   pub starts_and_ends : (reply : Reply) (entries : List Entry) (told : Option told_end.Ended) → plan_of_start s c ≡ Ending reply
@@ -228,15 +294,20 @@ module _ (s : Scene) (d e : Server) (c : ℕ) (is : IsStartOf s d e c) where
       → told ≡ ended_of_member (member_of (with_started d.set c) c) reply → Moves (Work c) s d e entries told
   starts_and_ends reply entries told plan_is set_is drops entries_are told_is =
       let h : State = started_state s c in
+      let more : List Entry = Started c ∷ Ended c reply ∷ [] in
       let t : Scene = scene_after s (beat (Work c) (Started c ∷ Ended c reply ∷ []) []) in
       let owes : owed_by h c ≡ Some (Ending reply) = start-owes s c is.may.m is.may.is_in ∙ ap Some plan_is in
       let may_end : next (Ending reply) (deed.Ended reply (names_dirty h reply)) ≡ Some Over = ap (λ (b : Bool). cond b (Some Over) None) (same_reply-own reply) in
       let last : entry_lawful (capacity s) (Work c) h (Ended c reply) ≡ true = end_lawful (capacity s) h c (Ending reply) Over reply owes may_end refl in
-      let gone : member_of t.hist.set c ≡ None = find-dropped_own (λ (m : Member). m.task.c) c (with_started s.hist.set c) in
-      let told_so : told ≡ ended_of_member (member_of s.hist.set c) reply =
-      told_is ∙ (ap (λ (ms : List Member). ended_of_member (member_of (with_started ms c) c) reply) is.fits.tasks.set
-      ∙ (ap (λ (o : Option Member). ended_of_member o reply) (find-started_own c s.hist.set is.may.m is.may.is_in)
-      ∙ sym (ap (λ (o : Option Member). ended_of_member o reply) is.may.is_in))) in
+      let alike : (q : ℕ) → q ≢ c → IsAlike s t q = λ q other. record {
+        map = refl;
+        member = find-dropped_other (λ (m : Member). m.task.c) c q (with_started s.hist.set c) other ∙ find-started_other c q s.hist.set other;
+        duty = put_at-other c q _ h.duties other ∙ (put_at-other c q _ (begun s.hist (Work c)).duties other ∙ put_at-other c q _ s.hist.duties other);
+        window = put_at-other c q _ s.windows other;
+        settings = put_at-other c q s.hist.settings s.settings other;
+        recovered = refl;
+        dirty = λ n holds. refl;
+      } in
       let M : List Entry → Option told_end.Ended → Type 0 = λ es o. Moves (Work c) s d e es o in
       let moves : M (Started c ∷ Ended c reply ∷ []) (ended_of_member (member_of s.hist.set c) reply) = record {
         ops = [];
@@ -248,37 +319,32 @@ module _ (s : Scene) (d e : Server) (c : ℕ) (is : IsStartOf s d e c) where
           shown = (tt, (subst (λ (o : Option Plan). IsEndShown s (beat (Work c) (Started c ∷ Ended c reply ∷ []) []) c o reply) (sym owes) tt, tt));
           step = (refl, refl);
           one_block = (lba 0, refl);
+          written = All-nil (WritesBlockData s.map);
+          own = and_both _ _ (eq-eqb c c refl) (and_both _ _ (eq-eqb c c refl) refl);
+          window = windows (Started c ∷ Ended c reply ∷ []);
           held = λ q below about. absurd (cc);
           stands = still_stands;
         };
-        fits = record {
-          store = has t refl refl;
-          cached = cached t (Started c ∷ Ended c reply ∷ []) refl refl refl refl refl refl;
-          known = knows t refl refl refl refl refl;
-          tasks = record {
-            set = set_is ∙ ap (λ (ms : List Member). without (with_started ms c) c) is.fits.tasks.set;
-            arrived = is.arrived ∙ is.fits.tasks.arrived;
-            came = All-filter _ (λ (m : Member). m.task.c ≤ s.hist.arrived) (with_started s.hist.set c) (All-started c s.hist.arrived s.hist.set is.fits.tasks.came);
-          };
-          staged = all_staged t e.commands.items c
-              (subst (λ (o : Option Accepted). IsStaged (view t c) o) (sym drops.own) gone)
-              (λ q other. staged-alike s t q (accepted_of d.commands.items q) (accepted_of e.commands.items q)
-              (record {
-                map = refl;
-                member = find-dropped_other (λ (m : Member). m.task.c) c q (with_started s.hist.set c) other ∙ find-started_other c q s.hist.set other;
-                duty = put_at-other c q _ h.duties other ∙ (put_at-other c q _ (begun s.hist (Work c)).duties other ∙ put_at-other c q _ s.hist.duties other);
-                window = put_at-other c q _ s.windows other;
-                settings = put_at-other c q s.hist.settings s.settings other;
-                recovered = refl;
-                dirty = λ n holds. refl;
-              })
-              (drops.others q other) (is.fits.staged q));
-          stands = still_stands;
-        };
+        fits = fits_ended t (Started c ∷ Ended c reply ∷ []) (record {
+          map = refl;
+          ops = refl;
+          since = refl;
+          entries = refl;
+          order = refl;
+          blocks = refl;
+          settings = refl;
+          waiting = refl;
+          corrupt = refl;
+          scan = refl;
+          set = refl;
+          arrived = refl;
+          alike = alike;
+          windows = windows (Started c ∷ Ended c reply ∷ []);
+        }) set_is drops;
         counted = omega (arith, is.arrived);
         ended = refl;
       } in
-      subst (λ (o : Option told_end.Ended). M entries o) (sym told_so)
+      subst (λ (o : Option told_end.Ended). M entries o) (sym (told_as_in reply told told_is))
       (subst (λ (es : List Entry). M es (ended_of_member (member_of s.hist.set c) reply)) (sym entries_are) moves)
 
   -- it begins to work on blocks
@@ -302,6 +368,7 @@ module _ (s : Scene) (d e : Server) (c : ℕ) (is : IsStartOf s d e c) where
         started = refl;
         owes = start-duty s c ∙ ap Some plan_is;
         settings = settings;
+        retry = is.fits.known.retry;
         recovered = is.may.waiting.recovered;
         at_block = at_block (view t c) window settings (ap (λ (o : Option ℕ). option_map_or (λ b. is_dirty (t.hist.blocks b)) o false) held);
         range = range;
@@ -314,6 +381,15 @@ module _ (s : Scene) (d e : Server) (c : ℕ) (is : IsStartOf s d e c) where
         is_in = find-started_own c s.hist.set is.may.m is.may.is_in;
         under_way = subst (λ (x : Course). IsWorking (view t c) (record is.may.m { started = true }) x) (sym w_is) working;
       } in
+      let alike : (q : ℕ) → q ≢ c → IsAlike s t q = λ q other. record {
+        map = refl;
+        member = find-started_other c q s.hist.set other;
+        duty = put_at-other c q _ (begun s.hist (Work c)).duties other ∙ put_at-other c q _ s.hist.duties other;
+        window = put_at-other c q _ s.windows other;
+        settings = put_at-other c q s.hist.settings s.settings other;
+        recovered = refl;
+        dirty = λ n holds. refl;
+      } in
       let M : List Entry → Option told_end.Ended → Type 0 = λ es o. Moves (Work c) s d e es o in
       let moves : M (Started c ∷ []) None = record {
         ops = [];
@@ -324,6 +400,9 @@ module _ (s : Scene) (d e : Server) (c : ℕ) (is : IsStartOf s d e c) where
           shown = (tt, tt);
           step = (refl, refl);
           one_block = (lba 0, refl);
+          written = All-nil (WritesBlockData s.map);
+          own = and_both _ _ (eq-eqb c c refl) refl;
+          window = windows (Started c ∷ []);
           held = λ q below about. absurd (cc);
           stands = still_stands;
         };
@@ -338,17 +417,10 @@ module _ (s : Scene) (d e : Server) (c : ℕ) (is : IsStartOf s d e c) where
           };
           staged = all_staged t e.commands.items c
               (subst (λ (o : Option Accepted). IsStaged (view t c) o) (sym replaces.own) own)
-              (λ q other. staged-alike s t q (accepted_of d.commands.items q) (accepted_of e.commands.items q)
-              (record {
-                map = refl;
-                member = find-started_other c q s.hist.set other;
-                duty = put_at-other c q _ (begun s.hist (Work c)).duties other ∙ put_at-other c q _ s.hist.duties other;
-                window = put_at-other c q _ s.windows other;
-                settings = put_at-other c q s.hist.settings s.settings other;
-                recovered = refl;
-                dirty = λ n holds. refl;
-              })
+              (λ q other. staged-alike s t q (accepted_of d.commands.items q) (accepted_of e.commands.items q) (alike q other)
               (replaces.others q other) (is.fits.staged q));
+          apart = apart_none s t c is.fits.apart (λ q other. held-alike s t q (alike q other)) held;
+          windows = windows (Started c ∷ []);
           stands = still_stands;
         };
         counted = omega (arith, is.arrived);
@@ -356,37 +428,40 @@ module _ (s : Scene) (d e : Server) (c : ℕ) (is : IsStartOf s d e c) where
       } in
       subst (λ (o : Option told_end.Ended). M entries o) (sym told_is) (subst (λ (es : List Entry). M es None) (sym entries_are) moves)
 
--- a plan that begins with a reply, and one that begins with work
-pub begins_with_reply : (blocks : ℕ) (plan : Plan) (asks : Result Request Sense) (sent : DataOut) (given : Reply) → BeginsBy blocks plan asks sent (first_variant.Reply given) → plan ≡ Ending given
-begins_with_reply blocks (Ending reply) asks sent given is = ap Ending (sym is)
-begins_with_reply blocks (Unread b) asks sent given is = absurd is
-begins_with_reply blocks (Answering bytes reply) asks sent given is = absurd is
-begins_with_reply blocks Changing asks sent given is = absurd is
-begins_with_reply blocks (Reading r) asks sent given is = absurd is
-begins_with_reply blocks (Writing w) asks sent given is = absurd is
-begins_with_reply blocks (Syncing y) asks sent given is = absurd is
-begins_with_reply blocks (Moving x) asks sent given is = absurd is
-begins_with_reply blocks Over asks sent given is = absurd is
+-- a plan that begins with a reply, one that begins with data, and one that begins with work
+pub begins_with_reply : (m : DefectMap) (blocks : ℕ) (plan : Plan) (asks : Result Request Sense) (sent : DataOut) (given : Reply)
+    → BeginsBy m blocks plan asks sent (first_variant.Reply given) → plan ≡ Ending given
+begins_with_reply m blocks (Ending reply) asks sent given is = ap Ending (sym is)
+begins_with_reply m blocks other asks sent given is = absurd is
 
-abbrev IsWork : Plan → Type 0
+pub record BeginsWithPage (m : DefectMap) (plan : Plan) (asks : Result Request Sense) (bytes : List ℕ) (given : Reply) : Type 0 where
+  pub planned : List ℕ
+  pub plan_is : plan ≡ Answering planned given
+  pub page_is : bytes ≡ page_of m asks planned
+
+pub begins_with_page : (m : DefectMap) (blocks : ℕ) (plan : Plan) (asks : Result Request Sense) (sent : DataOut) (bytes : List ℕ) (given : Reply)
+    → BeginsBy m blocks plan asks sent (first_variant.Page bytes given) → BeginsWithPage m plan asks bytes given
+begins_with_page m blocks (Answering planned reply) asks sent bytes given is = record { planned = planned; plan_is = ap (Answering planned) (sym is.1); page_is = is.0 }
+begins_with_page m blocks other asks sent bytes given is = absurd is
+
+abbrev pub IsWork : Plan → Type 0
 IsWork (Ending reply) = ⊥
+IsWork (Answering bytes reply) = ⊥
 IsWork other = Unit {0}
 
 pub record BeginsWork (blocks : ℕ) (plan : Plan) (asks : Result Request Sense) (sent : DataOut) (request : Request) : Type 0 where
   pub work : IsWork plan
   pub is_for : IsWorkFor blocks asks sent request
 
-pub begins_with_work : (blocks : ℕ) (plan : Plan) (asks : Result Request Sense) (sent : DataOut) (command : Command) → BeginsBy blocks plan asks sent (first_variant.Work command)
-    → BeginsWork blocks plan asks sent (request_of command)
-begins_with_work blocks (Ending reply) asks sent command is = absurd is
-begins_with_work blocks (Unread b) asks sent command is = record { work = tt; is_for = is }
-begins_with_work blocks (Answering bytes reply) asks sent command is = record { work = tt; is_for = is }
-begins_with_work blocks Changing asks sent command is = record { work = tt; is_for = is }
-begins_with_work blocks (Reading r) asks sent command is = record { work = tt; is_for = is }
-begins_with_work blocks (Writing w) asks sent command is = record { work = tt; is_for = is }
-begins_with_work blocks (Syncing y) asks sent command is = record { work = tt; is_for = is }
-begins_with_work blocks (Moving x) asks sent command is = record { work = tt; is_for = is }
-begins_with_work blocks Over asks sent command is = record { work = tt; is_for = is }
+pub begins_with_work : (m : DefectMap) (blocks : ℕ) (plan : Plan) (asks : Result Request Sense) (sent : DataOut) (command : Command)
+    → BeginsBy m blocks plan asks sent (first_variant.Work command) → BeginsWork blocks plan asks sent (request_of command)
+begins_with_work m blocks (Ending reply) asks sent command is = absurd is
+begins_with_work m blocks (Answering planned reply) asks sent command is = absurd is
+begins_with_work m blocks other asks sent command is = record { work = tt; is_for = is }
+
+pub no_ending : (plan : Plan) → IsWork plan → IsNoEnding plan
+no_ending (Ending reply) work = absurd work
+no_ending other work = tt
 
 -- a plan depends on these parts of a state and of a command alone
 first-same : (blocks i : ℕ) (h k : State) (x y : Duty) → h.settings ≡ k.settings → h.waiting ≡ k.waiting → h.corrupt ≡ k.corrupt → h.scan ≡ k.scan
@@ -396,7 +471,7 @@ first-same blocks i h k x y settings waiting corrupt scan code asks sent =
 
 -- what is first by what the drive knows is first by the history
 pub first-known : (s : Scene) (d : Server) (c : ℕ) (first : First) (m : Member) (a : Accepted) → Fits s d → MayStart s d c → member_of d.set c ≡ Some m → accepted_of d.commands.items c ≡ Some a
-    → IsFirstBy d.known m a first → IsFirst s c first
+    → IsFirstBy d.store.map d.known m a first → IsFirst s c first
 first-known s d c first m a fits may in_set in_list is =
     let m_is : m ≡ may.m = (let here : member_of s.hist.set c ≡ Some m = sym (ap (λ (ms : List Member). member_of ms c) fits.tasks.set) ∙ in_set in
     let there : member_of s.hist.set c ≡ Some may.m = may.is_in in cc) in
@@ -413,13 +488,45 @@ first-known s d c first m a fits may in_set in_list is =
     (λ j. first_plan (size j) (state_of d.known) (i_is j) (duty_of (slice_index a.cdb 0) (read_of a.cdb a.sent d.known.capacity) a.sent))
     ∙ first-same (capacity s) (initiator_of s.hist c) (state_of d.known) s.hist (duty_of (slice_index a.cdb 0) (read_of a.cdb a.sent d.known.capacity) a.sent) (s.hist.duties c)
     fits.known.settings fits.known.waiting fits.known.corrupt fits.known.scan code asks sent in
-    let P : ℕ → Plan → Type 0 = λ n p. BeginsBy n p (s.hist.duties c).asks (s.hist.duties c).sent first in
-    let Q : Result Request Sense → DataOut → Type 0 = λ x y. BeginsBy d.known.capacity
+    let P : DefectMap → ℕ → Plan → Type 0 = λ n blocks p. BeginsBy n blocks p (s.hist.duties c).asks (s.hist.duties c).sent first in
+    let Q : Result Request Sense → DataOut → Type 0 = λ x y. BeginsBy d.store.map d.known.capacity
     (first_plan d.known.capacity (state_of d.known) m.task.initiator (duty_of (slice_index a.cdb 0) (read_of a.cdb a.sent d.known.capacity) a.sent)) x y first in
     let moved : Q (s.hist.duties c).asks (s.hist.duties c).sent =
     subst (λ (y : DataOut). Q (s.hist.duties c).asks y) sent (subst (λ (x : Result Request Sense). Q x a.sent) asks is) in
-    subst (λ (n : ℕ). P n (first_plan (capacity s) s.hist (initiator_of s.hist c) (s.hist.duties c))) size
-    (subst (λ (p : Plan). P d.known.capacity p) plan moved)
+    subst (λ (n : DefectMap). P n (capacity s) (first_plan (capacity s) s.hist (initiator_of s.hist c) (s.hist.duties c))) fits.store.map
+    (subst (λ (blocks : ℕ). P d.store.map blocks (first_plan (capacity s) s.hist (initiator_of s.hist c) (s.hist.duties c))) size
+    (subst (λ (p : Plan). P d.store.map d.known.capacity p) plan moved))
+
+pub in_set : (s : Scene) (d : Server) (c : ℕ) → Fits s d → (may : MayStart s d c) → member_of d.set c ≡ Some may.m
+in_set s d c fits may = ap (λ (ms : List Member). member_of ms c) fits.tasks.set ∙ may.is_in
+
+-- the attentions that wait after an accepted command starts
+pub told-accepted : (known : Waiting) (set : List Member) (c code capacity : ℕ) (a : Accepted) (asks : Result Request Sense) (waiting : Waiting)
+    → waiting ≡ waiting_after (Work c) (waiting_state known set (duty_of code asks Nothing)) (Started c) → code ≡ slice_index a.cdb 0
+    → asks ≡ read_of a.cdb a.sent capacity
+    → waiting ≡ waiting_at_start known (initiator_of (with_set set) c) (duty_of (slice_index a.cdb 0) (read_of a.cdb a.sent capacity) a.sent)
+told-accepted known set c code capacity a asks waiting is code_is asks_are =
+    is ∙ (λ j. waiting_at_start known (initiator_of (with_set set) c) (duty_of (code_is j) (asks_are j) a.sent))
+
+-- the attentions that wait by what the drive knows are those by the history
+pub told-known : (s : Scene) (d : Server) (c : ℕ) (items : List Accepted) (known : Known) → Fits s d → MayStart s d c → items ≡ d.commands.items
+    → ((a : Accepted) → accepted_of items c ≡ Some a → known ≡ record d.known {
+      waiting = waiting_at_start d.known.waiting (initiator_of (with_set d.set) c)
+          (duty_of (slice_index a.cdb 0) (read_of a.cdb a.sent d.known.capacity) a.sent);
+    })
+    → known ≡ record d.known { waiting = waiting_told s c }
+told-known s d c items known fits may items_are tells =
+    let asks : read_of may.a.cdb may.a.sent d.known.capacity ≡ (s.hist.duties c).asks =
+    (λ j. read_of may.a.cdb may.a.sent (fits.known.capacity j)) ∙ sym may.waiting.asks in
+    let code : slice_index may.a.cdb 0 ≡ (s.hist.duties c).code = sym may.waiting.code in
+    tells may.a (ap (λ (xs : List Accepted). accepted_of xs c) items_are ∙ may.a_is)
+    ∙ (λ j. record d.known {
+      waiting = waiting_at_start (fits.known.waiting j) (initiator_of (with_set (fits.tasks.set j)) c)
+          (record (s.hist.duties c) { code = code j; asks = asks j });
+    })
+
+pub is_in-known : (s : Scene) (d : Server) (c : ℕ) → Fits s d → MayStart s d c → IsIn d.set c
+is_in-known s d c fits may = subst IsSome (sym (in_set s d c fits may)) refl
 
 -- what an answer says of what is in it
 pub IfOk-map : {T E : Type 0} (P Q : T → Type 0) (r : Result T E) → ((x : T) → P x → Q x) → IfOk r P → IfOk r Q
@@ -431,9 +538,6 @@ pub served_first : (s : Scene) (d : Server) (c : ℕ) (a : Accepted) → Fits s 
 served_first s d c a fits may in_list =
     let a_is : a ≡ may.a = (let there : accepted_of d.commands.items c ≡ Some may.a = may.a_is in cc) in
     (λ j. is_served (read_of (a_is j).cdb (a_is j).sent (fits.known.capacity j))) ∙ (ap is_served (sym may.waiting.asks) ∙ may.waiting.served)
-
-pub in_set : (s : Scene) (d : Server) (c : ℕ) → Fits s d → (may : MayStart s d c) → member_of d.set c ≡ Some may.m
-in_set s d c fits may = ap (λ (ms : List Member). member_of ms c) fits.tasks.set ∙ may.is_in
 
 -- a command that begins with work names a block
 pub not_empty : (count : ℕ) (plan : Plan) (rest : Plan) → plan ≡ unwrap_or (unless_empty count rest) Over → IsWork plan → eqb count 0 ≡ false

@@ -42,6 +42,7 @@ use Rattle.drive_core.specs.Hardening.{hardened_at}
 use Rattle.drive_core.specs.Moves.{Moves, beat}
 use Rattle.drive_core.proofs.Tables.{put_at-own}
 use Rattle.drive_core.proofs.Halves.{Half}
+use Rattle.drive_core.proofs.Apart.{holds_none}
 use Rattle.drive_core.proofs.Fitting.{after_half}
 use Rattle.drive_core.proofs.Closing.{Goes, Stops}
 use Rattle.drive_core.proofs.Doing.{owed-begun, passed_owes, hardened_duty}
@@ -87,6 +88,7 @@ module _ (s : Scene) (c : ℕ) (m : Member) (settings : Settings) (gives : Bool)
           started = working.started;
           owes = ap (λ (d : Duty). d.owes) duty ∙ owes;
           settings = ap (λ f. f c) is.settings ∙ working.settings;
+          retry = working.retry;
           recovered = recovered ∙ working.recovered;
           at_block = (window, left);
           range = working.range;
@@ -116,7 +118,7 @@ module _ (s : Scene) (c : ℕ) (m : Member) (settings : Settings) (gives : Bool)
       let on : reply ≡ None = reply_is ∙ ap (λ (t : Bool). cond t None (Some good)) left in
       harden_on s d e c b bytes turn half entries h (Syncing (behind y (b.0 + 1))) told is blocks_are order (record a { work = Some then_course }) refl none
       (staged_sync s c m settings gives rec p y (b.0 + 1) is_in working (op_of s b bytes ∷ []) half h is owes window recovered a (ltb-true (b.0 + 1) y.end left))
-      (goes on))
+      (holds_none s c ((after_half s c (op_of s b bytes ∷ []) half).windows c) (Syncing (behind y (b.0 + 1))) refl) (goes on))
       (λ (last : ltb (b.0 + 1) y.end ≡ false).
       let end_is : b.0 + 1 ≡ y.end = omega (arith, below, ltb-false (b.0 + 1) y.end last) in
       let off : reply ≡ Some good = reply_is ∙ ap (λ (t : Bool). cond t None (Some good)) last in

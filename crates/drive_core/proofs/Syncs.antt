@@ -205,7 +205,7 @@ passes_all s d mid e c from to entries reply told may needs none store set arriv
       kept = λ q. ap (λ ops. stored s.map ops q) (append-nil s.ops);
     } in
     moves_end s c [] (Passed c from to ∷ []) entries (passed_state s c from to) (Syncing (record pass.y { at = to.0 })) d e good told half
-    (ends s c [] (Passed c from to ∷ []) (passed_state s c from to) (Syncing (record pass.y { at = to.0 })) Over good half
+    (ends s c [] (Passed c from to ∷ []) (passed_state s c from to) (Syncing (record pass.y { at = to.0 })) Over good d fits half
     (next-synced (record pass.y { at = to.0 }) (names_dirty (passed_state s c from to) good) to_is) refl (λ more. absurd (omega (arith, more, to_is))))
     (fits_end s c [] (Passed c from to ∷ []) (passed_state s c from to) (Syncing (record pass.y { at = to.0 })) good d e half fits stops.left
     (has_ops s t d.store e.store [] fits.store refl refl (ap (λ (x : Contained). x.map) kept) added (ap (λ (x : Contained). x.platter.armed) kept)

@@ -14,6 +14,7 @@ use Rattle.sector_store.specs.Stored.{KeepsBlocks}
 use Rattle.sector_store.specs.State.{Contained, IsStore}
 use Rattle.geometry_map.specs.Laws.{BlocksHaveOwnSectors}
 use Rattle.drive_core.specs.Ending.{ended_of_member}
+use Rattle.drive_core.proofs.Windows.{empty_tried}
 use Rattle.drive_core.proofs.Gets.{newest_undirty}
 use Rattle.drive_core.proofs.Tries.{next_stage-at}
 use Rattle.disk_base.specs.declared.address.Lba.{Lba}
@@ -267,7 +268,7 @@ tried_clean s c r p stage trying owes next_is later unforced =
     let one : stage ≡ record { number = 0; reread = 0; offset = pos 0; how = Light } = cc in
     absurd (true≢false (sym (ap (λ (x : Stage). eqb x.number 0) one) ∙ not_first)))
     (λ (some : eqb p.failed 0 ≡ false). some) (cases_Bool (eqb p.failed 0)) in
-    let window : eqb (length (s.windows c)) 0 ≡ false = trying.fresh ∙ begun_already in
+    let window : eqb (length (s.windows c)) 0 ≡ false = empty_tried (length (s.windows c)) p.failed trying.tried ∙ begun_already in
     let held : held_block s c ≡ Some r.at =
     ap (option_and_then (held_by_plan (s.windows c))) owes
     ∙ ap (λ (b : Bool). cond (not b || r.hardened) (Some r.at) None) window in

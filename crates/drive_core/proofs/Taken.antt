@@ -49,7 +49,7 @@ use Rattle.drive_core.specs.declared.accepted.Accepted.{Accepted}
 use Rattle.drive_core.specs.declared.server.Server.{Server}
 use Rattle.drive_core.specs.declared.answer.Ended as told_end
 use Rattle.drive_core.specs.Scene.{Scene, capacity, last_found}
-use Rattle.drive_core.specs.Holds.{holder_besides}
+use Rattle.drive_core.specs.Holds.{held_by_plan, holder_besides}
 use Rattle.drive_core.specs.Accepting.{accepted_of}
 use Rattle.drive_core.specs.Evidence.{lba, IsEndShown, IsGotShown}
 use Rattle.drive_core.specs.Commands.{view, IsWorking, IsOwnRecovery}
@@ -60,10 +60,11 @@ use Rattle.drive_core.proofs.Gets.{is_dirty-after_get, newest-after_get}
 use Rattle.drive_core.proofs.Tries.{no_strays-before}
 use Rattle.drive_core.proofs.Parts.{IsGotOnly}
 use Rattle.drive_core.proofs.Halves.{Half, goes_on, ends}
+use Rattle.drive_core.proofs.Apart.{holds_none, holds_next}
 use Rattle.drive_core.proofs.Fitting.{after_half, after_end, fits_on, fits_end}
 use Rattle.drive_core.proofs.Closing.{Goes, Stops, may_end, told_report, moves_on, moves_end}
 use Rattle.drive_core.proofs.GetTurns.{AreQuietAt, half_none, half_got, got_state}
-use Rattle.drive_core.proofs.ReadTurns.{next-got, next-lost, course, recovered-is, own-recovered, staged-got, staged-none}
+use Rattle.drive_core.proofs.ReadTurns.{window-got, next-got, next-lost, course, recovered-is, own-recovered, staged-got, staged-none}
 
 -- a block and all others after a get
 at_block : {V : Type 0} (f : BlockState → V) (blocks_then : Blocks) (b : ℕ) (v : Value) → f (after_get (blocks_then b) v) ≡ f (blocks_then b)
@@ -150,13 +151,15 @@ module _ (s : Scene) (c : ℕ) (m : Member) (settings : Settings) (gives : Bool)
       let got : Goes d e c (record a { work = Some (after (course s c m settings gives r p rec stage) (Got (Data bytes))) }) (Get c (lba r.at) (Data bytes) ∷ []) entries told = goes on in
       moves_on s c ops (Get c (lba r.at) (Data bytes) ∷ []) entries (got_state s c (lba r.at) (Data bytes)) (Reading (record r { at = r.at + 1; hardened = false })) d e
       (record a { work = Some (after (course s c m settings gives r p rec stage) (Got (Data bytes))) }) told half
-      (goes_on s c ops (Get c (lba r.at) (Data bytes) ∷ []) (got_state s c (lba r.at) (Data bytes)) (Reading (record r { at = r.at + 1; hardened = false })) half refl
+      (goes_on s c ops (Get c (lba r.at) (Data bytes) ∷ []) (got_state s c (lba r.at) (Data bytes)) (Reading (record r { at = r.at + 1; hardened = false })) d turn.fits half refl
       (or_right (not (eqb (length ops) 0)) true refl))
       (fits_on s c ops (Get c (lba r.at) (Data bytes) ∷ []) (got_state s c (lba r.at) (Data bytes)) (Reading (record r { at = r.at + 1; hardened = false })) d e
       (record a { work = Some (after (course s c m settings gives r p rec stage) (Got (Data bytes))) }) half turn.fits got.set got.arrived got.known got.replaces
       (turn.has t refl refl)
       (turn.cached t (got_only s t (lba r.at) (Data bytes) ops (Get c (lba r.at) (Data bytes) ∷ []) turn.quiet turn.present refl refl refl refl refl refl) refl refl)
-      (staged-got s c m settings gives r p rec stage a bytes ops turn.is_in turn.working next_is left clean by (ltb-true (r.at + 1) r.end more)))
+      (staged-got s c m settings gives r p rec stage a bytes ops turn.is_in turn.working next_is left clean by (ltb-true (r.at + 1) r.end more))
+      (holds_none s c (t.windows c) (Reading (record r { at = r.at + 1; hardened = false }))
+      (ap (λ (w : List Op). held_by_plan w (Reading (record r { at = r.at + 1; hardened = false }))) (window-got s c m settings gives r p rec stage (Data bytes) ops))))
       got turn.added refl)
       (λ (last : ltb (r.at + 1) r.end ≡ false).
       let x : Reply = report_of r.reports (after (course s c m settings gives r p rec stage) (Got (Data bytes))).recovered in
@@ -177,7 +180,7 @@ module _ (s : Scene) (c : ℕ) (m : Member) (settings : Settings) (gives : Bool)
         λ more. absurd (omega (arith, ltb-false (r.at + 1) r.end last)),
       ) in
       moves_end s c ops (Get c (lba r.at) (Data bytes) ∷ []) entries (got_state s c (lba r.at) (Data bytes)) (Reading (record r { at = r.at + 1; hardened = false })) d e x told half
-      (ends s c ops (Get c (lba r.at) (Data bytes) ∷ []) (got_state s c (lba r.at) (Data bytes)) (Reading (record r { at = r.at + 1; hardened = false })) Over x half
+      (ends s c ops (Get c (lba r.at) (Data bytes) ∷ []) (got_state s c (lba r.at) (Data bytes)) (Reading (record r { at = r.at + 1; hardened = false })) Over x d turn.fits half
       (may_end (after (course s c m settings gives r p rec stage) (Got (Data bytes))) x (names_dirty (got_state s c (lba r.at) (Data bytes)) x) turn.law course_is
       (sym reply_is ∙ over) (λ never. absurd (cc)) refl)
       told_so shown_so)
@@ -216,7 +219,7 @@ module _ (s : Scene) (c : ℕ) (m : Member) (settings : Settings) (gives : Bool)
       (sym reply_is ∙ over) (never_dirty (after (course s c m settings gives r p rec stage) answer).plan (after (course s c m settings gives r p rec stage) answer).step _ plan_is)
       (subst (λ (q : Plan). with_page [] q ≡ q) (sym plan_is) refl)) in
       moves_end s c ops (Get c (lba r.at) Lost ∷ []) entries (got_state s c (lba r.at) Lost) (Unread r.at) d e (unrecovered_read r.at) told half
-      (ends s c ops (Get c (lba r.at) Lost ∷ []) (got_state s c (lba r.at) Lost) (Unread r.at) Over (unrecovered_read r.at) half may refl tt)
+      (ends s c ops (Get c (lba r.at) Lost ∷ []) (got_state s c (lba r.at) Lost) (Unread r.at) Over (unrecovered_read r.at) d turn.fits half may refl tt)
       (fits_end s c ops (Get c (lba r.at) Lost ∷ []) (got_state s c (lba r.at) Lost) (Unread r.at) (unrecovered_read r.at) d e half turn.fits ended.left
       (turn.has t refl refl)
       (turn.cached t (got_only s t (lba r.at) Lost ops (Get c (lba r.at) Lost ∷ Ended c (unrecovered_read r.at) ∷ []) turn.quiet turn.present refl refl refl refl refl refl) refl refl))
@@ -240,9 +243,10 @@ module _ (s : Scene) (c : ℕ) (m : Member) (settings : Settings) (gives : Bool)
       let t : Scene = after_half s c (try_of before (place_of s.map (lba r.at)) stage None) [] in
       let got : Goes d e c (record a { work = Some (after (course s c m settings gives r p rec stage) Missed) }) [] entries told = goes on in
       moves_on s c ops [] entries (steps.begun s.hist (Work c)) (Reading r) d e (record a { work = Some (after (course s c m settings gives r p rec stage) Missed) }) told half
-      (goes_on s c ops [] (steps.begun s.hist (Work c)) (Reading r) half refl refl)
+      (goes_on s c ops [] (steps.begun s.hist (Work c)) (Reading r) d turn.fits half refl refl)
       (fits_on s c ops [] (steps.begun s.hist (Work c)) (Reading r) d e (record a { work = Some (after (course s c m settings gives r p rec stage) Missed) }) half turn.fits
       got.set got.arrived got.known got.replaces (turn.has t refl refl)
       (turn.cached t (tried_only s t (lba r.at) ops turn.quiet turn.present refl refl refl refl refl refl) refl refl)
-      (staged-none s c m settings gives r p rec stage a before turn.is_in turn.working next_is undirty one_left))
+      (staged-none s c m settings gives r p rec stage a before turn.is_in turn.working next_is undirty one_left)
+      (holds_next s c (t.windows c) r turn.free))
       got turn.added refl

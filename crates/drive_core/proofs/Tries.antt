@@ -1,8 +1,8 @@
 -- What a window shows with one try more.
-use Rattle.std.proofs.Common.{◌≡◌, ℕ, suc, ◌+◌, ◌-◌, ◌<◌, ◌≤◌, Bool, true, false, cond, eqb, List, [], ◌∷◌, ◌++◌, length, Option, Some, None, refl, sym, ap, ◌∙◌, subst, arith, length-append, append_assoc, add-one, ⊎_elim, inl, inr, get_or}
+use Rattle.std.proofs.Common.{◌≡◌, ℕ, suc, ◌+◌, ◌-◌, ◌<◌, ◌≤◌, Bool, true, false, cond, List, [], ◌∷◌, ◌++◌, length, Option, Some, None, refl, sym, ap, ◌∙◌, subst, arith, length-append, append_assoc, add-one, ⊎_elim, inl, inr, get_or}
 use Rattle.std.specs.Prelude.{slice_get, Contains}
 use Rattle.std.specs.Option.{is_none, option_and_then}
-use Rattle.std.proofs.lemmas.Bool.{cases_lt, ne_eqb}
+use Rattle.std.proofs.lemmas.Bool.{cases_lt}
 use Rattle.std.proofs.lemmas.Option.{slice_get-get_or, slice_get_past, slice_get_within}
 use Rattle.std.proofs.lemmas.List.{get_or-append-add}
 use Rattle.std.proofs.lemmas.List.Elements.{Contains-append_left, Contains-append_right}
@@ -41,11 +41,10 @@ pub last_found-try : (window : List Op) (before : ℕ) (p : Psn) (stage : Stage)
 last_found-try window before p stage found =
     ap (option_and_then stage_that_found) (last_get window (Fetched p (attempt_of stage)) (Tried before p stage found))
 
--- a window with a try isn't empty
-pub not_empty-try : (window : List Op) (before : ℕ) (p : Psn) (stage : Stage) (found : Option Payload)
-    → eqb (length (window ++ try_of before p stage found)) 0 ≡ false
-not_empty-try window before p stage found =
-    ne_eqb (length (window ++ try_of before p stage found)) 0 (λ none. absurd (omega (arith, length-append window (try_of before p stage found))))
+-- a window with a try more has two operations more
+pub length-try : (window : List Op) (before : ℕ) (p : Psn) (stage : Stage) (found : Option Payload)
+    → length (window ++ try_of before p stage found) ≡ length window + 2
+length-try window before p stage found = length-append window (try_of before p stage found)
 
 -- the try is in the window
 there : (window : List Op) (before : ℕ) (p : Psn) (stage : Stage) (found : Option Payload)

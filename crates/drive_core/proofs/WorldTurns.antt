@@ -1,12 +1,13 @@
--- A turn in which damage comes.
-use Rattle.std.proofs.Common.{◌≡◌, ℕ, ◌+◌, ◌≤◌, ◌<◌, Bool, true, false, List, [], ◌∷◌, ◌++◌, Option, Some, None, refl, sym, ap, ◌∙◌, subst, arith, append-nil}
-use Rattle.std.specs.Prelude.{◌^◌}
+-- Turns in which damage comes, and in which minutes pass.
+use Rattle.std.proofs.Common.{◌≡◌, ℕ, ◌+◌, ◌≤◌, ◌<◌, Bool, true, false, cond, List, [], ◌∷◌, ◌++◌, Option, Some, None, refl, sym, ap, ◌∙◌, subst, arith, append-nil}
+use Rattle.std.specs.Prelude.{◌^◌, min}
+use Rattle.std.proofs.lemmas.List.Elements.{All-nil}
 use Rattle.std.proofs.lemmas.List.Sums.{fold-append}
+use Rattle.std.proofs.lemmas.List.Elements.{All-from_recursion}
 use Rattle.disk_base.specs.declared.address.Lba.{Lba}
 use Rattle.platter_model.specs.declared.damage.Damage.{Damage}
 use Rattle.platter_model.specs.declared.op.Op.{Op}
 use Rattle.platter_model.specs.declared.op.Op.TheVariants.{Damaged}
-use Rattle.platter_model.specs.declared.world.World.{World}
 use Rattle.platter_model.specs.declared.world.World.TheVariants as world
 use Rattle.platter_model.specs.State.{State as Platter, with_op}
 use Rattle.platter_model.specs.Sector.{is_faulty, faulty_after}
@@ -18,33 +19,30 @@ use Rattle.sector_store.specs.Maps.{MayBeRecovered}
 use Rattle.sector_store.specs.State.{Contained, IsStore}
 use Rattle.sector_store.specs.Happening.{after_world, MayHappen}
 use Rattle.block_machine.specs.declared.entry.Entry.{Entry}
+use Rattle.block_machine.specs.declared.entry.Entry.TheVariants.{Tick}
 use Rattle.block_machine.specs.declared.turn.Label.TheVariants as label
-use Rattle.drive_core.specs.declared.event.Event.TheVariants as event
+use Rattle.block_machine.specs.Scan.{Scan, minutes_at_most, scan_after}
+use Rattle.history_replay.specs.declared.known.Known.{Known}
 use Rattle.drive_core.specs.declared.accepted.Accepted.{Accepted}
 use Rattle.drive_core.specs.declared.server.Server.{Server}
 use Rattle.drive_core.specs.Scene.{Scene, capacity, scene_after}
 use Rattle.drive_core.specs.Accepting.{accepted_of}
 use Rattle.drive_core.specs.Evidence.{lba}
-use Rattle.drive_core.specs.GoodTurn.{GoodTurn, IsStood, IsAllowed}
+use Rattle.drive_core.specs.GoodTurn.{GoodTurn, IsStood, IsAllowed, WritesBlockData}
 use Rattle.drive_core.specs.Fits.{Fits, IsPresentMap, IsCached, KnowsHistory}
 use Rattle.drive_core.specs.Moves.{Moves, beat}
 use Rattle.drive_core.specs.Served.{IsServedWorld}
-use Rattle.drive_core.specs.Serving.{MayServe}
 use Rattle.drive_core.proofs.Tries.{no_strays-before}
 use Rattle.drive_core.proofs.Elsewhere.{IsAlike, staged-alike}
-use Rattle.drive_core.proofs.Parts.{IsGotOnly, cached_got}
+use Rattle.drive_core.proofs.Parts.{IsGotOnly, cached_got, quiet_got}
 use Rattle.drive_core.proofs.Closing.{has_ops, present_after}
 
--- what may happen to a store, of what is served
-pub may_happen : (s : Scene) (d : Server) (w : World) → Fits s d → d.store.platter.sectors ≡ total_of d.store.map.size → IsServedWorld s.map.size w → MayHappen d.store.platter w
-may_happen s d (world.Damage x) fits sectors served =
+-- a damage of what is served may happen to the store
+pub may_happen : (s : Scene) (d : Server) (x : Damage) → Fits s d → d.store.platter.sectors ≡ total_of d.store.map.size → IsServedWorld s.map.size (world.Damage x)
+    → MayHappen d.store.platter (world.Damage x)
+may_happen s d x fits sectors served =
     let size : d.store.platter.sectors ≡ total_of s.map.size = sectors ∙ ap (λ (n : DefectMap). total_of n.size) fits.store.map in
     (omega (arith, served.0), served.1)
-may_happen s d (world.Fault p) fits sectors served = absurd served
-may_happen s d world.Cut fits sectors served = absurd served
-may_happen s d (world.Arm k tear) fits sectors served = absurd served
-may_happen s d world.Power fits sectors served = absurd served
-may_happen s d (world.Minutes count) fits sectors served = absurd served
 
 damages : (s : Scene) (d e : Server) (x : Damage) → Fits s d → e.store ≡ record d.store { platter = with_op d.store.platter (Damaged x) }
     → e.set ≡ d.set → e.commands.items ≡ d.commands.items → e.arrived ≡ d.arrived → e.known ≡ d.known
@@ -84,8 +82,11 @@ damages s d e x fits store_is set_is commands_is arrived_is known_is keeps prese
         tasks = refl;
         blocks = λ none. refl;
         shown = tt;
-        step = refl;
+        step = (refl, refl);
         one_block = (lba 0, refl);
+        written = All-from_recursion (WritesBlockData s.map) (Damaged x ∷ []) (tt, tt);
+        own = tt;
+        window = fits.windows;
         held = λ q below about. tt;
         stands = stands;
       };
@@ -98,7 +99,7 @@ damages s d e x fits store_is set_is commands_is arrived_is known_is keeps prese
           settings = fits.known.settings;
           retry = fits.known.retry;
           waiting = fits.known.waiting;
-          unwarned = fits.known.unwarned;
+          warned = fits.known.warned;
           corrupt = fits.known.corrupt;
           readable = fits.known.readable;
           scan = fits.known.scan;
@@ -107,22 +108,82 @@ damages s d e x fits store_is set_is commands_is arrived_is known_is keeps prese
         staged = λ q. staged-alike s t q (accepted_of d.commands.items q) (accepted_of e.commands.items q)
             (record { map = refl; member = refl; duty = refl; window = refl; settings = refl; recovered = refl; dirty = λ n holds. refl })
             (ap (λ (xs : List Accepted). accepted_of xs q) commands_is) (fits.staged q);
+        apart = fits.apart;
+        windows = fits.windows;
         stands = stands;
       };
       counted = omega (arith, arrived_is);
       ended = refl;
     }
 
-pub happens : (s : Scene) (d e : Server) (w : World) → Fits s d → IsServedWorld s.map.size w → e.store ≡ record d.store { platter = after_world d.store.platter w }
+-- damage comes, and the map is there after it
+pub damaged : (s : Scene) (d e : Server) (x : Damage) → Fits s d → e.store ≡ record d.store { platter = after_world d.store.platter (world.Damage x) }
     → e.set ≡ d.set → e.commands.items ≡ d.commands.items → e.arrived ≡ d.arrived → e.known ≡ d.known
     → KeepsBlocks d.store.map d.store.platter.ops e.store.platter.ops → IsStore e.store → KeepsBlocks e.store.map e.store.platter.ops e.store.platter.ops
     → (e.store.map.number < 2 ^ 63 → MayBeRecovered e.store.map.size e.store.platter.ops e.store.map)
-    → Moves (label.World w) s d e [] None
-happens s d e (world.Damage x) fits served store_is set_is commands_is arrived_is known_is keeps store finds may =
+    → Moves (label.World (world.Damage x)) s d e [] None
+damaged s d e x fits store_is set_is commands_is arrived_is known_is keeps store finds may =
     damages s d e x fits store_is set_is commands_is arrived_is known_is keeps
     (present_after s d.store e.store fits.store (ap (λ (y : Contained). y.map) store_is) store finds may)
-happens s d e (world.Fault p) fits served store_is set_is commands_is arrived_is known_is keeps store finds may = absurd served
-happens s d e world.Cut fits served store_is set_is commands_is arrived_is known_is keeps store finds may = absurd served
-happens s d e (world.Arm k tear) fits served store_is set_is commands_is arrived_is known_is keeps store finds may = absurd served
-happens s d e world.Power fits served store_is set_is commands_is arrived_is known_is keeps store finds may = absurd served
-happens s d e (world.Minutes count) fits served store_is set_is commands_is arrived_is known_is keeps store finds may = absurd served
+
+-- what is known once minutes passed
+abbrev pub later : Known → ℕ → Known
+later known n = record known { scan = record known.scan { minutes = min (known.scan.minutes + n) minutes_at_most } }
+
+-- minutes pass
+pub minutes_pass : (s : Scene) (d e : Server) (n : ℕ) (entries : List Entry) → Fits s d → e.store ≡ d.store → e.set ≡ d.set → e.commands.items ≡ d.commands.items
+    → e.arrived ≡ d.arrived → e.known ≡ later d.known n → entries ≡ Tick n ∷ []
+    → Moves (label.World (world.Minutes n)) s d e entries None
+minutes_pass s d e n entries fits store_is set_is commands_is arrived_is known_is entries_are =
+    let t : Scene = scene_after s (beat (label.World (world.Minutes n)) (Tick n ∷ []) []) in
+    let none_more : s.ops ++ [] ≡ s.ops = append-nil s.ops in
+    let ops_are : e.store.platter.ops ≡ d.store.platter.ops = ap (λ (y : Contained). y.platter.ops) store_is in
+    let map_is : e.store.map ≡ d.store.map = ap (λ (y : Contained). y.map) store_is in
+    let present : IsPresentMap e.store.map e.store.platter.ops =
+    subst (λ (y : Contained). IsPresentMap y.map y.platter.ops) (sym store_is)
+    (subst (λ (m : DefectMap). IsPresentMap m d.store.platter.ops) (sym fits.store.map)
+    (subst (λ (xs : List Op). IsPresentMap s.map xs) (sym fits.store.ops) fits.store.present)) in
+    let stands : IsStood s.map (s.ops ++ []) s.hist.blocks = subst (λ (xs : List Op). IsStood s.map xs s.hist.blocks) (sym none_more) fits.stands in
+    let M : List Entry → Type 0 = λ es. Moves (label.World (world.Minutes n)) s d e es None in
+    let moves : M (Tick n ∷ []) = record {
+      ops = [];
+      added = ops_are ∙ sym (append-nil d.store.platter.ops);
+      good = record {
+        tasks = refl;
+        blocks = λ none. refl;
+        shown = (tt, tt);
+        step = (sym (ap (λ (b : Bool). cond b [] (Tick n ∷ [])) fits.store.powered), refl);
+        one_block = (lba 0, refl);
+        written = All-nil (WritesBlockData s.map);
+        own = tt;
+        window = fits.windows;
+        held = λ q below about. tt;
+        stands = stands;
+      };
+      fits = record {
+        store = has_ops s t d.store e.store [] fits.store refl refl map_is (ops_are ∙ sym (append-nil d.store.platter.ops))
+            (ap (λ (y : Contained). y.platter.armed) store_is) (ap is_off none_more) (λ p. ap (is_faulty p) none_more) present;
+        cached = subst (λ (y : Contained). IsCached t y.cache) (sym store_is)
+            (cached_got s t d.store.cache (quiet_got s t (Tick n ∷ []) refl refl refl refl refl refl) fits.cached);
+        known = subst (λ (k : Known). KnowsHistory t k) (sym known_is) (record {
+          capacity = fits.known.capacity;
+          settings = fits.known.settings;
+          retry = fits.known.retry;
+          waiting = fits.known.waiting;
+          warned = fits.known.warned;
+          corrupt = fits.known.corrupt;
+          readable = fits.known.readable;
+          scan = ap (λ (x : Scan). scan_after x (Tick n)) fits.known.scan;
+        });
+        tasks = record { set = set_is ∙ fits.tasks.set; arrived = arrived_is ∙ fits.tasks.arrived; came = fits.tasks.came };
+        staged = λ q. staged-alike s t q (accepted_of d.commands.items q) (accepted_of e.commands.items q)
+            (record { map = refl; member = refl; duty = refl; window = refl; settings = refl; recovered = refl; dirty = λ m holds. refl })
+            (ap (λ (xs : List Accepted). accepted_of xs q) commands_is) (fits.staged q);
+        apart = fits.apart;
+        windows = fits.windows;
+        stands = stands;
+      };
+      counted = omega (arith, arrived_is);
+      ended = refl;
+    } in
+    subst M (sym entries_are) moves

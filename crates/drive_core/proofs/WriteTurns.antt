@@ -57,6 +57,7 @@ use Rattle.drive_core.specs.Moves.{Moves, beat}
 use Rattle.drive_core.proofs.Tables.{put_at-own}
 use Rattle.drive_core.proofs.Gets.{bytes_eq-own}
 use Rattle.drive_core.proofs.Halves.{Half, goes_on, ends}
+use Rattle.drive_core.proofs.Apart.{holds_none}
 use Rattle.drive_core.proofs.Fitting.{after_half, after_end, fits_on, fits_end, reached-end}
 use Rattle.drive_core.proofs.Closing.{Goes, Stops, moves_on, moves_end}
 
@@ -220,14 +221,15 @@ module _ (settings : Settings) (gives : Bool) (w : writing.Writing) (p : Progres
 
   -- the command stands as the history has it, by what comes next
   staged_by : (v : View) (m : Member) (a : Accepted) (plan : Plan) → after_written w ≡ plan → v.member ≡ Some m → m.started ≡ true
-      → v.duty.owes ≡ Some (after_written w) → v.settings ≡ settings → v.recovered ≡ rec → IsAtBlock v plan (Trying (begun settings.retry))
+      → v.duty.owes ≡ Some (after_written w) → v.settings ≡ settings → settings.retry ≤ 20 → v.recovered ≡ rec → IsAtBlock v plan (Trying (begun settings.retry))
       → end_of plan ≤ capacity_of v.map.size → IsOwnRecovery v.duty.asks rec → IsOwnRange v.duty.asks plan → IsTrue (is_served_plan plan)
       → IsCommand v (record a { work = Some written })
-  staged_by v m a plan is is_in started owes settings_are recovered at range own_recovery own_range served =
+  staged_by v m a plan is is_in started owes settings_are few recovered at range own_recovery own_range served =
       let whole : IsWorking v m (record { settings = settings; gives = gives; plan = plan; step = Trying (begun settings.retry); recovered = rec }) = record {
         started = started;
         owes = owes ∙ ap Some is;
         settings = settings_are;
+        retry = few;
         recovered = recovered;
         at_block = at;
         range = range;
@@ -247,7 +249,7 @@ fresh_reading v r retry left window same clean = record {
   retry = sym same;
   failed = λ k x below here. absurd (omega arith);
   unfound = ap last_found window;
-  fresh = ap (λ (ops : List Op). eqb (length ops) 0) window;
+  tried = ap length window;
   clean = clean;
 }
 
@@ -303,23 +305,24 @@ module _ (s : Scene) (d e : Server) (c : ℕ) (m : Member) (settings : Settings)
       → IsCommand (view (after_half s c ops half) c) (record a { work = Some (written settings gives w p rec) })
   staged a plan is at range own_range served =
       staged_by settings gives w p rec (view (after_half s c ops half) c) m a plan is member turn.working.started owes
-      (ap (λ f. f c) turn.half_is.settings ∙ turn.working.settings) (turn.recovered ∙ turn.working.recovered) at range
+      (ap (λ f. f c) turn.half_is.settings ∙ turn.working.settings) turn.working.retry (turn.recovered ∙ turn.working.recovered) at range
       (subst (λ (x : Result Request Sense). IsOwnRecovery x rec) (sym asks) turn.working.own_recovery)
       (subst (λ (x : Result Request Sense). IsOwnRange x plan) (sym asks) own_range) served
 
   -- the command goes on
   on : (a : Accepted) (plan : Plan) (entries : List Entry) (told : Option told_end.Ended) → after_written w ≡ plan → owes_nothing_now (Some plan) ≡ true
       → IsAtBlock (view (after_half s c ops half) c) plan (Trying (begun settings.retry))
-      → end_of plan ≤ capacity s → IsOwnRange (s.hist.duties c).asks plan → IsTrue (is_served_plan plan)
+      → end_of plan ≤ capacity s → IsOwnRange (s.hist.duties c).asks plan → IsTrue (is_served_plan plan) → held_by_plan [] plan ≡ None
       → Goes d e c (record a { work = Some (written settings gives w p rec) }) half entries told → Moves (Work c) s d e entries told
-  on a plan entries told is settled at range own_range served goes =
+  on a plan entries told is settled at range own_range served holds goes =
       moves_on s c ops half entries h (after_written w) d e (record a { work = Some (written settings gives w p rec) }) told turn.half_is
-      (goes_on s c ops half h (after_written w) turn.half_is (ap (λ (x : Plan). owes_nothing_now (Some x)) is ∙ settled) turn.acts)
+      (goes_on s c ops half h (after_written w) d turn.fits turn.half_is (ap (λ (x : Plan). owes_nothing_now (Some x)) is ∙ settled) turn.acts)
       (fits_on s c ops half h (after_written w) d e (record a { work = Some (written settings gives w p rec) }) turn.half_is turn.fits goes.set goes.arrived goes.known
       goes.replaces (turn.has (after_half s c ops half) refl refl)
       (turn.cached (after_half s c ops half) [] refl refl refl (ap (λ (es : List Entry). s.entries ++ es) (sym (append-nil half)))
       (ap (λ (x : State). x.blocks) turn.half_is.reached) (ap (λ (x : State). x.dirty) turn.half_is.reached))
-      (staged a plan is at range own_range served))
+      (staged a plan is at range own_range served)
+      (holds_none s c ((after_half s c ops half).windows c) (after_written w) ((λ i. held_by_plan (window i) (is i)) ∙ holds)))
       goes turn.added turn.untold
 
   -- the command ends
@@ -337,7 +340,7 @@ module _ (s : Scene) (d e : Server) (c : ℕ) (m : Member) (settings : Settings)
       let shown_last : End (Writing (next_writing w)) = λ more. absurd (omega arith) in
       let reached = reached-end s c ops half h (after_written w) good turn.half_is in
       moves_end s c ops half entries h (after_written w) d e good told turn.half_is
-      (ends s c ops half h (after_written w) Over good turn.half_is owes_last told_last (subst End (sym is) shown_last))
+      (ends s c ops half h (after_written w) Over good d turn.fits turn.half_is owes_last told_last (subst End (sym is) shown_last))
       (fits_end s c ops half h (after_written w) good d e turn.half_is turn.fits stops.left (turn.has (after_end s c ops half good) refl refl)
       (turn.cached (after_end s c ops half good) (Ended c good ∷ []) refl refl refl refl
       (ap (λ (x : State). x.blocks) reached) (ap (λ (x : State). x.dirty) reached)))
@@ -353,13 +356,13 @@ module _ (s : Scene) (d e : Server) (c : ℕ) (m : Member) (settings : Settings)
     where
       by : After w → Moves (Work c) s d e entries told
       by (another more is) =
-          on a (Writing (next_writing w)) entries told is refl (window, more) turn.working.range turn.working.own_range turn.working.served
+          on a (Writing (next_writing w)) entries told is refl (window, more) turn.working.range turn.working.own_range turn.working.served refl
           (goes (reply_is ∙ unended-another settings gives w p rec more is))
       by (verify verifies is) =
           on a (Reading (verifying w)) entries told is refl
           (fresh_reading (view (after_half s c ops half) c) (verifying w) settings.retry (omega arith) window
           (ap (λ (x : Settings). x.retry) (ap (λ f. f c) turn.half_is.settings ∙ turn.working.settings))
           (ap (λ (o : Option ℕ). option_map_or (λ b. is_dirty ((after_half s c ops half).hist.blocks b)) o false) (unheld (verifying w) refl is)))
-          turn.working.range (turn.working.own_range verifies) (served verifies)
+          turn.working.range (turn.working.own_range verifies) (served verifies) refl
           (goes (reply_is ∙ unended-verify settings gives w p rec (omega arith) is))
       by (done last is) = over entries told last is (stops good (reply_is ∙ ended-done settings gives w p rec last is))

@@ -1,5 +1,5 @@
 -- How a command that is in stands.
-use Rattle.std.specs.Prelude.{◌≡◌, ℕ, ◌<◌, ◌≤◌, ◌==◌, Bool, true, false, IsTrue, List, [], length, slice_index, Option, Some, None, Result, Ok, Err}
+use Rattle.std.specs.Prelude.{◌≡◌, ℕ, ◌*◌, ◌<◌, ◌≤◌, Bool, true, false, IsTrue, List, [], length, slice_index, Option, Some, None, Result, Ok, Err}
 use Rattle.std.specs.Option.{option_map_or, is_some}
 use Rattle.sense_data.specs.declared.sense.Sense.{Sense}
 use Rattle.task_set.specs.declared.member.Member.{Member}
@@ -62,14 +62,15 @@ pub record IsWaiting (v : View) (m : Member) (a : Accepted) : Type 0 where
   pub recovered : v.recovered ≡ None
   pub served : IsTrue (is_served v.duty.asks)
 
--- a read at the block that comes next: the stages so far failed, and what was tried or hardened isn't dirty
+-- a read at the block that comes next: the stages so far failed, each with a fetch and a try, and what was tried or hardened
+-- isn't dirty
 pub record IsTrying (v : View) (r : reading.Reading) (p : Progress) : Type 0 where
   pub left : r.at < r.end
   pub next : is_some (next_stage p) ≡ true
   pub retry : p.retry ≡ v.settings.retry
   pub failed : FailedBelow v.window (place_of v.map (lba r.at)) p.retry p.failed
   pub unfound : last_found v.window ≡ None
-  pub fresh : (length v.window == 0) ≡ (p.failed == 0)
+  pub tried : length v.window ≡ 2 * p.failed
   pub clean : v.holds_dirty ≡ false
 
 -- a command at the block that comes next, between its turns
@@ -97,6 +98,7 @@ pub record IsWorking (v : View) (m : Member) (w : Course) : Type 0 where
   pub started : m.started ≡ true
   pub owes : v.duty.owes ≡ Some w.plan
   pub settings : v.settings ≡ w.settings
+  pub retry : w.settings.retry ≤ 20
   pub recovered : v.recovered ≡ w.recovered
   pub at_block : IsAtBlock v w.plan w.step
   pub range : end_of w.plan ≤ capacity_of v.map.size

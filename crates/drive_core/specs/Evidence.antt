@@ -1,5 +1,5 @@
 -- What the operations of a turn, and those before it, show of its entries.
-use Rattle.std.specs.Prelude.{◌≡◌, ◌⊎◌, ℕ, ◌<◌, ◌&&◌, Bool, true, false, not, List, ◌++◌, Contains, slice_get, Option, Some, None}
+use Rattle.std.specs.Prelude.{◌≡◌, ◌⊎◌, ℕ, ◌<◌, ◌&&◌, Bool, true, false, not, List, ◌++◌, Contains, slice_get, Option, Some, None, Result, Ok}
 use Rattle.disk_base.specs.declared.address.Lba.{Lba}
 use Rattle.disk_base.specs.declared.address.Psn.{Psn}
 use Rattle.disk_base.specs.declared.block.Value.{Value}
@@ -8,18 +8,21 @@ use Rattle.disk_base.specs.declared.payload.Payload.{Payload}
 use Rattle.disk_base.specs.declared.stage.Stage.{Stage}
 use Rattle.disk_base.specs.Payload.{value_for}
 use Rattle.sense_data.specs.declared.reply.Reply.{Reply}
+use Rattle.sense_data.specs.declared.sense.Sense.{Sense}
 use Rattle.mode_pages.specs.declared.settings.Settings.{Settings}
 use Rattle.read_recovery.specs.Stages.{stages_of}
 use Rattle.platter_model.specs.declared.op.Op.{Op}
 use Rattle.platter_model.specs.declared.op.Op.TheVariants.{Tried, WriteFailed}
 use Rattle.geometry_map.specs.DefectMap.{DefectMap, place_of}
 use Rattle.sector_store.specs.Tries.{FoundNothing, FoundValue, WritesBlock}
+use Rattle.defect_lists.specs.DefectData.{defect_data}
+use Rattle.cdb_reader.specs.Request.{Request, ReadDefectData}
 use Rattle.cdb_reader.specs.declared.plan.Plan.{Plan}
 use Rattle.cdb_reader.specs.declared.plan.Plan.TheVariants.{Reading, Writing, Syncing}
 use Rattle.command_engine.specs.declared.step.Recovery.{Recovery}
 use Rattle.command_engine.specs.Ending.{report_of}
 use Rattle.block_machine.specs.declared.entry.Entry.{Entry}
-use Rattle.block_machine.specs.declared.entry.Entry.TheVariants.{Get, Put, Harden, Ended, Scanned}
+use Rattle.block_machine.specs.declared.entry.Entry.TheVariants.{Get, Put, Harden, Page, Ended, Scanned}
 use Rattle.block_machine.specs.Blocks.{is_dirty, newest}
 use Rattle.block_machine.specs.State.{State, owed_by}
 use Rattle.drive_core.specs.Scene.{Scene, Beat, windows_with, scene_after}
@@ -79,10 +82,17 @@ IsEndShown s t c (Some (Writing w)) reply = w.at < w.end → FailedToWrite s t c
 IsEndShown s t c (Some (Syncing y)) reply = y.at < y.end → FailedToWrite s t c y.at
 IsEndShown s t c plan reply = Unit {0}
 
+-- the data of a command whose plan has these: those of READ DEFECT DATA are the defects of the map (SBC-3)
+abbrev pub page_of : DefectMap → Result Request Sense → List ℕ → List ℕ
+page_of m (Ok (ReadDefectData primary grown format allocation)) planned =
+    defect_data m (record { primary = primary; grown = grown; format = format; allocation = allocation })
+page_of m asks planned = planned
+
 -- what a turn's operations show of one of its entries, from the state before that entry
 abbrev pub Shows : Scene → Beat → State → Entry → Type 0
 Shows s t h (Get c b v) = is_dirty (h.blocks b.0) ≡ false → IsGotShown s t h c b v
 Shows s t h (Harden who b) = (v : Value) → newest (h.blocks b.0) ≡ Some v → WritesBlock s.map b v t.ops
+Shows s t h (Page c bytes) = bytes ≡ page_of s.map (h.duties c).asks bytes
 Shows s t h (Ended c reply) = IsEndShown s t c (owed_by h c) reply
 -- nothing is scanned yet
 Shows s t h (Scanned b what) = ⊥

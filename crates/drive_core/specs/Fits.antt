@@ -1,5 +1,5 @@
 -- The parts of a drive are what its turns have come to.
-use Rattle.std.specs.Prelude.{◌≡◌, ℕ, ◌^◌, ◌≤◌, ◌<◌, false, List, map, Some, None, All}
+use Rattle.std.specs.Prelude.{◌≡◌, ℕ, ◌^◌, ◌≤◌, ◌<◌, false, List, length, map, Some, None, All}
 use Rattle.std.specs.Map.{keys_of}
 use Rattle.std.specs.Option.{option_map}
 use Rattle.disk_base.specs.declared.address.Lba.{Lba}
@@ -9,7 +9,6 @@ use Rattle.platter_model.specs.declared.op.Op.{Op}
 use Rattle.platter_model.specs.Sector.{is_faulty}
 use Rattle.platter_model.specs.TrueLog.{is_off, strays}
 use Rattle.write_cache.specs.Contents.{Contents, newest, clean_data}
-use Rattle.sense_data.specs.Attentions.{none_waiting}
 use Rattle.geometry_map.specs.DefectMap.{DefectMap}
 use Rattle.sector_store.specs.Maps.{MayBeRecovered}
 use Rattle.sector_store.specs.Stored.{stored, IsThere, KeepsBlocks}
@@ -18,10 +17,12 @@ use Rattle.block_machine.specs.Blocks.{is_dirty}
 use Rattle.block_machine.specs.Blocks as blocks
 use Rattle.history_replay.specs.declared.known.Known.{Known}
 use Rattle.history_replay.specs.Known.{scan_of}
+use Rattle.history_replay.specs.Warning.{KnownWait}
 use Rattle.drive_core.specs.declared.server.Server.{Server}
 use Rattle.drive_core.specs.Scene.{Scene, capacity}
+use Rattle.drive_core.specs.Holds.{IsApart}
 use Rattle.drive_core.specs.Evidence.{IsKnown}
-use Rattle.drive_core.specs.GoodTurn.{IsStood}
+use Rattle.drive_core.specs.GoodTurn.{IsStood, window_at_most}
 use Rattle.drive_core.specs.Accepting.{accepted_of}
 use Rattle.drive_core.specs.Commands.{view, IsStaged}
 
@@ -56,13 +57,14 @@ pub record IsCached (s : Scene) (cache : Contents) : Type 0 where
   pub known : (b : Lba) (bytes : List ℕ) → newest b cache ≡ Some bytes → IsKnown s.entries s.since b (Data bytes)
   pub clean : (b : Lba) (bytes : List ℕ) → clean_data b cache ≡ Some bytes → IsClean s b bytes
 
--- mode values, attentions and the scan are the history's; nothing waits for anyone yet, and the map isn't corrupt
+-- mode values, attentions and the scan are the history's; no attentions wait but those that are ever raised, and the map isn't
+-- corrupt
 pub record KnowsHistory (s : Scene) (known : Known) : Type 0 where
   pub capacity : known.capacity ≡ capacity s
   pub settings : known.settings ≡ s.hist.settings
   pub retry : s.hist.settings.retry ≤ 20
   pub waiting : known.waiting ≡ s.hist.waiting
-  pub unwarned : s.hist.waiting ≡ none_waiting
+  pub warned : KnownWait known.waiting
   pub corrupt : known.corrupt ≡ s.hist.corrupt
   pub readable : s.hist.corrupt ≡ false
   pub scan : scan_of known.scan ≡ s.hist.scan
@@ -79,4 +81,6 @@ pub record Fits (s : Scene) (d : Server) : Type 0 where
   pub known : KnowsHistory s d.known
   pub tasks : HasTasks s d
   pub staged : (c : ℕ) → IsStaged (view s c) (accepted_of d.commands.items c)
+  pub apart : IsApart s
+  pub windows : (c : ℕ) → length (s.windows c) ≤ window_at_most
   pub stands : IsStood s.map s.ops s.hist.blocks

@@ -1,20 +1,25 @@
 -- What is said of one turn.
-use Rattle.std.specs.Prelude.{◌≡◌, ℕ, ◌<◌, ◌==◌, ◌||◌, not, Bool, true, false, IsTrue, List, [], ◌∷◌, ◌++◌, length, Option, Some, None}
+use Rattle.std.specs.Prelude.{◌≡◌, ℕ, ◌<◌, ◌≤◌, ◌==◌, ◌||◌, not, Bool, true, false, IsTrue, if◌then◌else◌, List, [], ◌∷◌, ◌++◌, length, Option, Some, None, All}
 use Rattle.std.specs.List.{list_any, list_all}
 use Rattle.std.specs.Option.{option_map_or}
 use Rattle.disk_base.specs.Along.{Along}
 use Rattle.disk_base.specs.declared.address.Lba.{Lba}
 use Rattle.disk_base.specs.declared.address.Psn.{Psn}
 use Rattle.disk_base.specs.declared.block.Value.{Value}
+use Rattle.disk_base.specs.declared.payload.Payload.{Payload}
 use Rattle.platter_model.specs.declared.op.Op.{Op}
 use Rattle.platter_model.specs.declared.op.Op.TheVariants as op
 use Rattle.platter_model.specs.declared.world.World.{World}
 use Rattle.platter_model.specs.declared.world.World.TheVariants as world
-use Rattle.platter_model.specs.TrueLog.{strays}
+use Rattle.platter_model.specs.TrueLog.{is_off, strays}
 use Rattle.geometry_map.specs.DefectMap.{DefectMap, place_of}
+use Rattle.geometry_map.specs.Size.{capacity_of}
+use Rattle.sector_store.specs.State.{placed}
 use Rattle.sector_store.specs.Stored.{Stands}
 use Rattle.block_machine.specs.declared.entry.Entry.{Entry}
 use Rattle.block_machine.specs.declared.entry.Entry.TheVariants.{Get, Put, Harden, GiveUp}
+use Rattle.block_machine.specs.declared.entry.Entry.TheVariants as entry
+use Rattle.block_machine.specs.declared.entry.Who.TheVariants as who
 use Rattle.block_machine.specs.declared.turn.Label.{Label}
 use Rattle.block_machine.specs.declared.turn.Label.TheVariants.{Arrive, Work}
 use Rattle.block_machine.specs.declared.turn.Label.TheVariants as label
@@ -72,18 +77,20 @@ is_one_step (op.WriteFailed p ∷ []) = true
 is_one_step (op.Torn payload tear ∷ op.Cut ∷ []) = true
 is_one_step other = false
 
--- the operations of what happens from outside; of power and minutes nothing is said yet
-abbrev pub IsWorldStep : World → List Op → Type 0
-IsWorldStep (world.Damage d) ops = ops ≡ op.Damaged d ∷ []
-IsWorldStep (world.Fault p) ops = ops ≡ op.Faulty p ∷ []
-IsWorldStep (world.Arm k tear) ops = ops ≡ []
-IsWorldStep other ops = Unit {0}
+-- the operations and entries of what happens from outside, while the power is off or on; minutes are counted while it is on, and
+-- of power nothing is said yet
+abbrev pub IsWorldStep : Bool → World → List Entry → List Op → Type 0
+IsWorldStep off (world.Damage d) entries ops = (entries ≡ []) × (ops ≡ op.Damaged d ∷ [])
+IsWorldStep off (world.Fault p) entries ops = (entries ≡ []) × (ops ≡ op.Faulty p ∷ [])
+IsWorldStep off (world.Arm k tear) entries ops = (entries ≡ []) × (ops ≡ [])
+IsWorldStep off (world.Minutes n) entries ops = (entries ≡ (if off then [] else entry.Tick n ∷ [])) × (ops ≡ [])
+IsWorldStep off other entries ops = Unit {0}
 
 -- a turn's operations are those of one step, and it isn't empty
-abbrev pub IsStep : Label → List Entry → List Op → Type 0
-IsStep (Arrive i) entries ops = ops ≡ []
-IsStep (label.World w) entries ops = IsWorldStep w ops
-IsStep other entries ops = IsTrue (is_one_step ops) × IsTrue (not (length ops == 0) || not (length entries == 0))
+abbrev pub IsStep : Bool → Label → List Entry → List Op → Type 0
+IsStep off (Arrive i) entries ops = ops ≡ []
+IsStep off (label.World w) entries ops = IsWorldStep off w entries ops
+IsStep off other entries ops = IsTrue (is_one_step ops) × IsTrue (not (length ops == 0) || not (length entries == 0))
 
 -- no other command holds a block when a turn of work begins
 abbrev pub IsFree : Scene → Label → Lba → Type 0
@@ -94,14 +101,50 @@ IsFree s other b = Unit {0}
 abbrev pub is_about : Scene → Beat → Lba → Bool
 is_about s t b = list_any (is_on b) t.entries || list_any (is_at_sector (place_of s.map b)) t.ops
 
+-- an entry is a command's: it starts, gets, puts or hardens, passes over blocks, gives data, ends or changes mode values
+abbrev pub is_entry_of : ℕ → Entry → Bool
+is_entry_of c (entry.Started d) = d == c
+is_entry_of c (Get d b v) = d == c
+is_entry_of c (Put d b v) = d == c
+is_entry_of c (Harden (who.Command d) b) = d == c
+is_entry_of c (entry.Passed d from to) = d == c
+is_entry_of c (entry.Page d bytes) = d == c
+is_entry_of c (entry.Ended d reply) = d == c
+is_entry_of c (entry.Mode settings) = true
+is_entry_of c other = false
+
+-- a turn of work has entries of its command alone
+abbrev pub AreOwn : Label → List Entry → Type 0
+AreOwn (Work c) entries = IsTrue (list_all (is_entry_of c) entries)
+AreOwn label entries = Unit {0}
+
+-- a payload is the data of one of the map's blocks, for its place
+abbrev pub IsBlockData : DefectMap → Payload → Type 0
+IsBlockData m payload = (b : Lba) × (bytes : List ℕ) × (b.0 < capacity_of m.size) × (payload ≡ placed m b bytes)
+
+-- an operation that writes a sector, also one that is torn, writes a block's own data to its place
+abbrev pub WritesBlockData : DefectMap → Op → Type 0
+WritesBlockData m (op.Wrote payload) = IsBlockData m payload
+WritesBlockData m (op.Torn payload tear) = IsBlockData m payload
+WritesBlockData m other = Unit {0}
+
+-- two operations for each of the 25 stages that the greatest retry count has
+abbrev pub window_at_most : ℕ
+window_at_most = 50
+
 pub record GoodTurn (s : Scene) (t : Beat) : Type 0 where
   -- it may come, as far as commands go
   pub tasks : IsTrue (entries_lawful (capacity s) t.label (begun s.hist t.label) t.entries)
   -- and as far as blocks go, while no operation is a stray
   pub blocks : strays (s.ops ++ t.ops) ≡ 0 → IsTrue (blocks_lawful (capacity s) s.hist.blocks t.entries)
   pub shown : Along (entry_after (capacity s) t.label) (Shows s t) (begun s.hist t.label) t.entries
-  pub step : IsStep t.label t.entries t.ops
+  pub step : IsStep (is_off s.ops) t.label t.entries t.ops
   pub one_block : IsOnOneBlock t.entries
+  -- nothing but blocks' data is written, each to its place
+  pub written : All (WritesBlockData s.map) t.ops
+  pub own : AreOwn t.label t.entries
+  -- no window is longer than the tries of all stages
+  pub window : (c : ℕ) → length ((scene_after s t).windows c) ≤ window_at_most
   -- nobody but the holder is about a block
   pub held : (b : Lba) → b.0 < capacity s → is_about s t b ≡ true → IsFree s t.label b
   -- what is stored after it

@@ -25,6 +25,10 @@ holds s b c = option_map_or (λ h. h == b) (held_block s c) false
 abbrev pub holder_besides : Scene → ℕ → ℕ → Option ℕ
 holder_besides s c b = option_map (λ m. m.task.c) (find (λ m. not (m.task.c == c) && holds s b m.task.c) s.hist.set)
 
+-- no two commands hold one block
+abbrev pub IsApart : Scene → Type 0
+IsApart s = (c q b : ℕ) → held_block s c ≡ Some b → held_block s q ≡ Some b → c ≡ q
+
 -- the first dirty block from one address to below another
 abbrev pub first_dirty : Blocks → ℕ → ℕ → Option ℕ
 first_dirty blocks from to = find (λ b. is_dirty (blocks b)) (range_with_len from (to - from))

@@ -5,6 +5,7 @@ use Rattle.disk_base.specs.declared.address.Psn.{Psn}
 use Rattle.platter_model.specs.declared.op.Op.{Op}
 use Rattle.platter_model.specs.TrueLog.{IsTrueLog}
 use Rattle.geometry_map.specs.declared.size.Size.{Size}
+use Rattle.geometry_map.specs.DefectMap.{IsValidMap, factory_map}
 use Rattle.sector_store.specs.State.{Contained}
 use Rattle.block_machine.specs.declared.turn.Turn.{Turn}
 use Rattle.drive_core.specs.Scene.{Scene, Beat, scene_at_start, scene_after, factory_ops}
@@ -41,8 +42,10 @@ FollowFrom from (turn ∷ turns) to = (turn.ops_from ≡ from) × (from ≤ turn
 abbrev pub scene_of : Run → Scene
 scene_of r = fold scene_after (scene_at_start r.size r.primary) (map (beat_of r.ops) r.turns)
 
--- what is said of a run: the operations begin with the factory's and each turn has its own, they are a true log, and each turn is good
+-- what is said of a run: its map from the factory is valid, the operations begin with the factory's and each turn has its own, they
+-- are a true log, and each turn is good
 pub record IsGoodRun (r : Run) : Type 0 where
+  pub valid : IsValidMap (factory_map r.size r.primary)
   pub follow : FollowFrom (length (factory_ops r.size r.primary)) r.turns (length r.ops)
   pub own : (scene_of r).ops ≡ r.ops
   pub log : IsTrueLog r.ops

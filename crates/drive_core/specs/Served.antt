@@ -2,10 +2,10 @@
 use Rattle.std.specs.Prelude.{◌+◌, ◌<◌, ◌≤◌, ◌==◌, ◌||◌, not, Bool, true, false, IsTrue, ℕ, List, slice_index, Result, Ok, Err}
 use Rattle.sense_data.specs.declared.sense.Sense.{Sense}
 use Rattle.platter_model.specs.declared.world.World.{World}
-use Rattle.platter_model.specs.declared.world.World.TheVariants.{Damage}
+use Rattle.platter_model.specs.declared.world.World.TheVariants.{Damage, Minutes}
 use Rattle.geometry_map.specs.declared.size.Size.{Size}
 use Rattle.geometry_map.specs.Size.{total_of}
-use Rattle.cdb_reader.specs.Request.{Request, Read, Write, WriteAndVerify, Verify, SynchronizeCache}
+use Rattle.cdb_reader.specs.Request.{Request, ReassignBlocks, ModeSelect}
 use Rattle.cdb_reader.specs.declared.plan.Plan.{Plan}
 use Rattle.cdb_reader.specs.declared.plan.Plan.TheVariants.{Ending, Unread, Reading, Writing, Syncing}
 use Rattle.drive_core.specs.declared.event.Arrival.{Arrival}
@@ -13,9 +13,9 @@ use Rattle.drive_core.specs.declared.event.Arrival.TheVariants.{Command, Functio
 use Rattle.drive_core.specs.declared.event.Event.{Event}
 use Rattle.drive_core.specs.declared.event.Event.TheVariants as event
 
--- the operation codes that are served: READ (10) and (16), WRITE (10) and (16), WRITE AND VERIFY (10), VERIFY (10), SYNCHRONIZE CACHE (10) and (16)
+-- the operation codes that are served: all but REASSIGN BLOCKS and MODE SELECT (6) and (10)
 abbrev pub is_served_code : ℕ → Bool
-is_served_code code = code == 0x28 || code == 0x88 || code == 0x2A || code == 0x8A || code == 0x2E || code == 0x2F || code == 0x35 || code == 0x91
+is_served_code code = not (code == 0x07 || code == 0x15 || code == 0x55)
 
 -- a command block that is served: of these codes
 abbrev pub is_served_cdb : List ℕ → Bool
@@ -23,15 +23,12 @@ is_served_cdb bs = is_served_code (slice_index bs 0)
 
 -- what a served command block asks for, also where it is refused
 abbrev pub is_served : Result Request Sense → Bool
-is_served (Ok (Read from count fua)) = true
-is_served (Ok (Write from count fua)) = true
-is_served (Ok (WriteAndVerify from count)) = true
-is_served (Ok (Verify from count)) = true
-is_served (Ok (SynchronizeCache from count)) = true
-is_served (Ok other) = false
+is_served (Ok (ReassignBlocks blocks)) = false
+is_served (Ok (ModeSelect ten count)) = false
+is_served (Ok other) = true
 is_served (Err sense) = true
 
--- and the plans of such commands
+-- and the plans of such commands from one turn to the next
 abbrev pub is_served_plan : Plan → Bool
 is_served_plan (Ending reply) = true
 is_served_plan (Unread b) = true
@@ -40,15 +37,16 @@ is_served_plan (Writing w) = true
 is_served_plan (Syncing y) = true
 is_served_plan other = false
 
--- what may happen from outside so far: damage within the drive
+-- what may happen from outside so far: damage within the drive, and minutes pass
 abbrev pub IsServedWorld : Size → World → Type 0
 IsServedWorld size (Damage d) = (d.p.0 < total_of size) × (d.first + d.count ≤ 9478)
+IsServedWorld size (Minutes n) = Unit {0}
 IsServedWorld size other = ⊥
 
 -- what may arrive so far
 abbrev pub IsServedArrival : Arrival → Type 0
 IsServedArrival (Command i tag attribute cdb sent) = IsTrue (is_served_cdb cdb)
-IsServedArrival (Function i what) = ⊥
+IsServedArrival (Function i what) = Unit {0}
 
 -- the events that are served
 abbrev pub IsServed : Size → Event → Type 0

@@ -1,7 +1,9 @@
 -- Which events are served where, and what their turns come to.
-use Rattle.std.specs.Prelude.{◌≡◌, ◌+◌, ◌^◌, ◌<◌, List, Some, None}
+use Rattle.std.specs.Prelude.{◌≡◌, ℕ, ◌+◌, ◌^◌, ◌<◌, List, Some, None}
 use Rattle.block_machine.specs.declared.entry.Entry.{Entry}
+use Rattle.drive_core.specs.declared.event.Arrival.TheVariants.{Function}
 use Rattle.drive_core.specs.declared.event.Event.{Event}
+use Rattle.drive_core.specs.declared.event.Event.TheVariants as event
 use Rattle.drive_core.specs.declared.server.Server.{Server}
 use Rattle.drive_core.specs.declared.turning.Served.{Served}
 use Rattle.drive_core.specs.Scene.{Scene}
@@ -10,6 +12,11 @@ use Rattle.drive_core.specs.Able.{refusal_on}
 use Rattle.drive_core.specs.Moves.{Moves}
 use Rattle.drive_core.specs.Served.{IsServed}
 use Rattle.drive_core.specs.Turning.{label_of, arrives_as, BeginsWith}
+
+-- a task management function has an entry, and one for each command of the set; any other turn has at most four
+abbrev pub entries_at_most : Event → ℕ
+entries_at_most (event.Arrive (Function i what)) = 65
+entries_at_most other = 4
 
 -- the parts of a drive fit a scene in which an event is served and not refused; one more command has a number
 pub record MayServe (s : Scene) (d : Server) (e : Event) : Type 0 where

@@ -2,8 +2,9 @@
 use Rattle.std.specs.Prelude.{◌≡◌, ℕ, ◌+◌, ◌-◌, ◌==◌, Bool, true, false, List, [], ◌∷◌, ◌++◌, length, Option, Some, None}
 use Rattle.std.specs.List.{list_any}
 use Rattle.std.specs.Option.{option_map, option_map_or, option_and_then}
+use Rattle.platter_model.specs.declared.op.Op.{Op}
 use Rattle.block_machine.specs.declared.entry.Entry.{Entry}
-use Rattle.block_machine.specs.declared.entry.Entry.TheVariants.{Arrived, Scanned}
+use Rattle.block_machine.specs.declared.entry.Entry.TheVariants.{Arrived, Asked, Scanned}
 use Rattle.block_machine.specs.declared.turn.Label.{Label}
 use Rattle.block_machine.specs.declared.turn.Label.TheVariants as label
 use Rattle.block_machine.specs.declared.turn.Turn.{Turn}
@@ -42,12 +43,13 @@ label_of s event.Scan = Some label.Scan
 label_of s event.Destage = Some label.Destage
 label_of s (event.World w) = Some (label.World w)
 
--- a command arrives with the next number
+-- a command arrives with the next number, and a function as it is asked for
 abbrev pub arrives_as : ℕ → Event → Option Entry
 arrives_as arrived (event.Arrive (Command i tag attribute cdb sent)) = Some (Arrived (arrived + 1) i tag attribute cdb sent)
+arrives_as arrived (event.Arrive (Function i what)) = Some (Asked i what)
 arrives_as arrived other = None
 
--- the turn's first entry is that a command arrives, where the event says so
+-- the turn's first entry is what arrives, where the event says so
 abbrev pub BeginsWith : Option Entry → List Entry → Type 0
 BeginsWith None entries = Unit {0}
 BeginsWith (Some e) entries = (rest : List Entry) × (entries ≡ e ∷ rest)
@@ -67,6 +69,9 @@ pub record AddsTurn (old : Run) (e : Event) (given : TurnAnswer) (new : Run) : T
   pub turns : new.turns ≡ old.turns ++ turn ∷ []
   pub label : label_of (scene_of old) e ≡ Some turn.label
   pub arrival : BeginsWith (arrives_as (scene_of old).hist.arrived e) turn.entries
+  -- what the platter did
+  pub ops : List Op
+  pub added : new.ops ≡ old.ops ++ ops
   pub size : new.size ≡ old.size
   pub primary : new.primary ≡ old.primary
   pub coming : new.coming ≡ coming_after old.coming e

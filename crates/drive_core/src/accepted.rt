@@ -1,6 +1,7 @@
 //! The commands that are in, with what is under way of each.
-ghost use Rattle.std.specs.Prelude.{◌≡◌, ◌≢◌, ℕ, ◌<◌, ◌==◌, IsTrue, IsSomeAnd, Some, None, length, slice_get, vec_len, vec_capacity, position, MatchOption, option_copied};
-ghost use Rattle.std.specs.Option.{option_map};
+ghost use Rattle.std.specs.Prelude.{◌≡◌, ◌≢◌, ℕ, ◌<◌, ◌==◌, IsTrue, IsSomeAnd, Some, None, filter, length, slice_get, vec_len, vec_capacity, position, MatchOption, option_copied};
+ghost use Rattle.std.specs.Option.{option_map, is_some};
+ghost use Rattle.task_set.specs.Members.{member_of};
 ghost use Rattle.command_engine.specs.Answers.{fits, after};
 ghost use Rattle.command_engine.specs.Ending.{ending_of};
 ghost use Rattle.command_engine.specs.Course.{Course};
@@ -13,6 +14,7 @@ use disk_base::{Cdb, DataOut};
 use mode_pages::Settings;
 use sense_data::Reply;
 use std::mem;
+use task_set::TaskSet;
 
 /// A command that is in, by its number.
 #[derive(Debug, Drop)]
@@ -110,4 +112,11 @@ pub fn leave(commands: &mut Vec<Accepted>, c: u32)
     ensures { Drops commands.old.items commands.new.items c }
 {
     commands.retain(|a| a.c != c);
+}
+
+/// The commands that aren't in the set any more leave.
+pub fn leave_with_set(commands: &mut Vec<Accepted>, set: &TaskSet)
+    ensures { commands.new.items ≡ filter (λ a. is_some (member_of set.now a.c)) commands.old.items }
+{
+    commands.retain(|a| set.member(a.c).is_some());
 }

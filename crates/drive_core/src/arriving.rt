@@ -1,4 +1,4 @@
-//! Commands arrive.
+//! Commands and task management functions arrive.
 ghost use Rattle.std.specs.Prelude.{◌≡◌, ◌+◌, ◌≤◌, ◌<◌, ◌^◌, [], Some, IfOk, OnOk, OnErr, IsTrue, vec_len, vec_capacity};
 ghost use Rattle.block_machine.specs.declared.turn.Label.TheVariants.{Arrive as ArriveOf};
 ghost use Rattle.drive_core.specs.Scene.{Scene};
@@ -7,10 +7,11 @@ ghost use Rattle.drive_core.specs.Fits.{Fits};
 ghost use Rattle.drive_core.specs.Served.{is_served_cdb};
 ghost use Rattle.drive_core.specs.Turning.{BeginsWith};
 ghost use Rattle.drive_core.specs.Arriving.{entry_of};
-ghost use Rattle.drive_core.specs.Serving.{MayServe, IsServedTurn};
+ghost use Rattle.drive_core.specs.Serving.{MayServe, IsServedTurn, entries_at_most};
 ghost use Rattle.drive_core.specs.declared.event.Event.TheVariants as event;
 
 use crate::accepted::Accepted;
+use crate::asking::ask;
 use crate::server::Server;
 use crate::turning::Served;
 use crate::{Arrival, Ended};
@@ -31,6 +32,22 @@ pub struct Arriving {
     pub sent: DataOut,
 }
 
+impl Arriving {
+    // Its entry, by the number that it gets.
+    fn into_entry(self, c: u32) -> Entry
+        ensures { result ≡ entry_of c self }
+    {
+        Entry::Arrived {
+            c,
+            initiator: self.initiator,
+            tag: self.tag,
+            attribute: self.attribute,
+            cdb: self.cdb,
+            sent: self.sent,
+        }
+    }
+}
+
 /// The turn of an arrival.
 pub fn arrive(
     alloc: Global,
@@ -40,7 +57,7 @@ pub fn arrive(
 ) -> Result<Served, NoMemory>
     requires may { (s : Scene) × MayServe s server.old (event.Arrive arrival) }
     requires empty { entries.old.items ≡ [] }
-    requires entry_room { 4 ≤ vec_capacity entries.old }
+    requires entry_room { entries_at_most (event.Arrive arrival) ≤ vec_capacity entries.old }
     requires command_room { vec_len server.old.commands + 1 ≤ vec_capacity server.old.commands }
     ensures moves { (s : Scene) → MayServe s server.old (event.Arrive arrival)
         → IfOk result (IsServedTurn s (event.Arrive arrival) server.old server.new entries.new.items) }
@@ -67,8 +84,13 @@ pub fn arrive(
                 ended,
             })
         }
-        // Not served yet.
-        Arrival::Function { .. } => unreachable!(),
+        Arrival::Function { initiator, what } => {
+            ask(server, initiator, what, entries);
+            Ok(Served {
+                label: Label::Arrive(initiator),
+                ended: None,
+            })
+        }
     }
 }
 
@@ -89,29 +111,20 @@ fn enter(
     ensures arrival { OnOk result (BeginsWith (Some (entry_of (server.old.arrived + 1) arriving)) entries.new.items) }
     ensures err { OnErr result (server.new ≡ server.old) }
 {
-    let Arriving {
-        initiator,
-        tag,
-        attribute,
-        cdb,
-        sent,
-    } = arriving;
     let c = server.arrived + 1;
     let accepted = Accepted {
         c,
-        cdb: cdb.copy(),
-        sent: sent.copy(alloc)?,
+        cdb: arriving.cdb.copy(),
+        sent: arriving.sent.copy(alloc)?,
         work: None,
     };
-    let full = server.set.members().len() >= TASKS_MAX;
-    let entry = Entry::Arrived {
-        c,
-        initiator,
-        tag,
-        attribute,
-        cdb,
-        sent,
+    let refused = Ended {
+        initiator: arriving.initiator,
+        tag: arriving.tag,
+        status: TASK_SET_FULL,
     };
+    let full = server.set.members().len() >= TASKS_MAX;
+    let entry = arriving.into_entry(c);
     settle_set(&mut server.set, server.known.capacity, &entry);
     server.arrived = c;
     entries.push_reserved(entry);
@@ -120,11 +133,7 @@ fn enter(
             c,
             reply: Reply::task_set_full(),
         });
-        return Ok(Some(Ended {
-            initiator,
-            tag,
-            status: TASK_SET_FULL,
-        }));
+        return Ok(Some(refused));
     }
     server.commands.push_reserved(accepted);
     Ok(None)

@@ -1,16 +1,17 @@
 //! The drive and its calls.
-ghost use Rattle.std.specs.Prelude.{◌≡◌, ◌↔◌, [], IsTrue, IfOk, OnErr, MatchOption, MatchResult};
+ghost use Rattle.std.specs.Prelude.{◌≡◌, ◌↔◌, [], false, IsTrue, IfOk, OnErr, MatchOption, MatchResult};
+ghost use Rattle.platter_model.specs.TrueLog.{is_off};
 ghost use Rattle.geometry_map.specs.DefectMap.{IsPrimaryList};
 ghost use Rattle.drive_core.specs.Run.{IsGoodRun, run_at_start, scene_of};
 ghost use Rattle.drive_core.specs.Able.{refusal, needs_power, pick_of};
 ghost use Rattle.drive_core.specs.Turning.{AddsTurn, coming_after};
-ghost use Rattle.drive_core.specs.Progress.{IsApart, SomebodyIsAble};
+ghost use Rattle.drive_core.specs.Progress.{SomebodyIsAble};
 ghost use Rattle.drive_core.specs.Served.{IsServed};
 ghost use Rattle.drive_core.specs.Starting.{KnowsStart};
 
 use crate::server::{Server, reserve};
 use crate::standing::stands;
-use crate::turning::serve;
+use crate::turning::{entries_at_most, serve};
 use crate::{Event, Pick, TurnAnswer, Waiting, able};
 use block_machine::{Entries, Turn, Turns};
 use disk_base::{NoMemory, Psn};
@@ -74,9 +75,10 @@ impl Drive {
         })
     }
 
-    /// Holds of every drive: its run is good.
+    /// Holds of every drive: its run is good, and the power is on.
     pub fn is_good(&self)
-        ensures { IsGoodRun self.now }
+        ensures good { IsGoodRun self.now }
+        ensures powered { is_off self.now.ops ≡ false }
     {
         let platter = self.server.store.platter();
         platter.has_a_true_log();
@@ -93,7 +95,8 @@ impl Drive {
         if let Some(refused) = self.refusal(&event) {
             return Ok(refused);
         }
-        let mut entries = reserve(self.alloc, &mut self.server, &mut self.turns)?;
+        let entries_max = entries_at_most(&event);
+        let mut entries = reserve(self.alloc, &mut self.server, &mut self.turns, entries_max)?;
         let from = self.server.store.platter().ops().len() as u64;
         let coming = coming_after(self.coming, &event);
         let served = serve(self.alloc, &mut self.server, event, &mut entries)?;
@@ -135,7 +138,7 @@ impl Drive {
 
     /// The turn that a number picks among those that may come: what arrives by initiator, then commands by age.
     pub fn pick(&self, waiting: &Waiting, x: u32) -> Option<Pick>
-        ensures { result ≡ pick_of self.now waiting.now x }
+        ensures value { result ≡ pick_of self.now waiting.now x }
     {
         if self.server.store.platter().is_off() || self.turns.len() >= TURNS_MAX {
             return None;
@@ -143,9 +146,9 @@ impl Drive {
         able::picked(&self.server, waiting, x)
     }
 
-    /// Holds of every drive on which no two commands hold one block: while commands are in, work on one of them may come.
+    /// Holds of every drive: while commands are in, work on one of them may come.
     pub fn somebody_is_able(&self)
-        ensures { IsApart (scene_of self.now) → SomebodyIsAble (scene_of self.now) }
+        ensures { SomebodyIsAble (scene_of self.now) }
     {
         some_command_may_run();
         let _ = self.server.set.members();
@@ -196,7 +199,7 @@ fn known_at_start(alloc: Global, capacity: u64) -> Result<Known, NoMemory>
     Ok(Known {
         capacity,
         settings: Settings::default_values(),
-        waiting: Attentions::none(),
+        waiting: Attentions::power_on(),
         corrupt: false,
         scan: Scanning {
             minutes: 0,

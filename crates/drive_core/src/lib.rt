@@ -7,6 +7,7 @@ mod able;
 mod accepted;
 mod answer;
 mod arriving;
+mod asking;
 mod drive;
 mod ending;
 mod event;
@@ -18,6 +19,8 @@ mod starting;
 mod storing;
 mod syncing;
 mod taking;
+#[cfg(test)]
+mod turn_tests;
 mod turning;
 mod worldly;
 

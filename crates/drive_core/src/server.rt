@@ -10,9 +10,6 @@ use sector_store::Store;
 use std::alloc::Global;
 use task_set::TaskSet;
 
-// A turn of a command has at most so many entries.
-const ENTRIES_MAX: usize = 4;
-
 // A turn has at most so many operations that are not those of a commit.
 const OPS_MAX: usize = 2;
 
@@ -28,16 +25,17 @@ pub struct Server {
     pub known: Known,
 }
 
-/// Makes room for a turn, and gives the list for its entries.
+/// Makes room for a turn, and gives the list for so many entries of it.
 pub fn reserve(
     alloc: Global,
     server: &mut Server,
     turns: &mut Vec<Turn>,
+    entries_max: usize,
 ) -> Result<Vec<Entry>, NoMemory>
     ensures same { IsSameServer server.old server.new }
     ensures turns { turns.new.items ≡ turns.old.items }
     ensures empty { IfOk result (λ entries. entries.items ≡ []) }
-    ensures entry_room { IfOk result (λ entries. 4 ≤ vec_capacity entries) }
+    ensures entry_room { IfOk result (λ entries. entries_max ≤ vec_capacity entries) }
     ensures ops_room { OnOk result (2 ≤ server.new.store.platter.room) }
     ensures command_room { OnOk result (vec_len server.new.commands + 1 ≤ vec_capacity server.new.commands) }
     ensures turn_room { OnOk result (vec_len turns.new + 1 ≤ vec_capacity turns.new) }
@@ -45,6 +43,6 @@ pub fn reserve(
     server.store.reserve(OPS_MAX)?;
     server.commands.reserve(1)?;
     turns.reserve(1)?;
-    let entries = Vec::with_capacity(alloc, ENTRIES_MAX)?;
+    let entries = Vec::with_capacity(alloc, entries_max)?;
     Ok(entries)
 }

@@ -1,27 +1,37 @@
 //! The first turn of work on a command.
-ghost use Rattle.std.specs.Prelude.{◌≡◌, ◌≤◌, [], None, IfOk, OnErr, IsTrue, slice_index, vec_capacity};
+ghost use Rattle.std.specs.Prelude.{◌≡◌, ◌≤◌, [], None, Some, IfOk, OnErr, IsTrue, slice_index, vec_capacity};
 ghost use Rattle.block_machine.specs.declared.turn.Label.TheVariants.{Work as WorkOn};
-ghost use Rattle.drive_core.specs.Accepting.{under_way};
+ghost use Rattle.block_machine.specs.State.{initiator_of};
+ghost use Rattle.block_machine.specs.Steps.{waiting_at_start};
+ghost use Rattle.cdb_reader.specs.Read.{read_of};
+ghost use Rattle.cdb_reader.specs.Request.{outcome_of};
+ghost use Rattle.history_replay.specs.Known.{duty_of, with_set};
+ghost use Rattle.history_replay.specs.Warning.{KnownWait};
+ghost use Rattle.task_set.specs.Members.{IsIn};
+ghost use Rattle.drive_core.specs.declared.accepted.Accepted.{Accepted as AcceptedCommand};
+ghost use Rattle.drive_core.specs.Accepting.{accepted_of, under_way};
+ghost use Rattle.drive_core.specs.Evidence.{page_of};
 ghost use Rattle.drive_core.specs.Scene.{Scene};
 ghost use Rattle.drive_core.specs.Moves.{Moves, MayWork};
 ghost use Rattle.drive_core.specs.Starting.{IsFirst, IsFirstBy};
 ghost use Rattle.drive_core.specs.Served.{is_served};
-ghost use Rattle.cdb_reader.specs.Read.{read_of};
 
 use crate::Ended;
 use crate::accepted::{Accepted, begin, place, take_sent};
 use crate::ending::conclude;
 use crate::server::Server;
-use block_machine::Entry;
+use block_machine::{Entry, Label};
 use cdb_reader::{Command, Plan};
 use command_engine::Work;
-use disk_base::NoMemory;
-use history_replay::{Known, first_plan};
-use sense_data::Reply;
+use defect_lists::{DefectReply, DefectRequest, defect_reply};
+use disk_base::{Bytes, NoMemory};
+use geometry_map::Map;
+use history_replay::{Known, first_plan, read, settle_attentions};
+use sense_data::{Reply, Sense};
 use std::alloc::Global;
-use task_set::Member;
+use task_set::{Member, TaskSet};
 
-/// A command starts, and ends at once where there is no work on blocks.
+/// A command starts. It ends at once where it is refused or there is no work on blocks, with the data that it gives.
 pub fn start(
     alloc: Global,
     server: &mut Server,
@@ -37,9 +47,19 @@ pub fn start(
 {
     let first = first_of(alloc, server, c)?;
     entries.push_reserved(Entry::Started { c });
+    tell(
+        &mut server.known,
+        &server.set,
+        server.commands.as_slice(),
+        c,
+    );
     server.set.start(c);
     match first {
         First::Reply(reply) => Ok(conclude(server, c, Some(reply), entries)),
+        First::Page { bytes, reply } => {
+            entries.push_reserved(Entry::Page { c, bytes });
+            Ok(conclude(server, c, Some(reply), entries))
+        }
         First::Work(command) => {
             let sent = take_sent(&mut server.commands, c);
             begin(
@@ -57,8 +77,35 @@ pub fn start(
 pub enum First {
     /// It ends with this at once.
     Reply(Reply),
+    /// It gives these data, and ends with this at once.
+    Page { bytes: Bytes, reply: Reply },
     /// Work on blocks.
     Work(Command),
+}
+
+// A command of the set starts, and takes the attention that it tells its initiator.
+fn tell(known: &mut Known, set: &TaskSet, commands: &[Accepted], c: u32)
+    requires is_in { IsIn set.now c }
+    requires known { KnownWait known.old.waiting }
+    ensures { (a : AcceptedCommand) → accepted_of commands.now c ≡ Some a
+        → known.new ≡ record known.old {
+          waiting = waiting_at_start known.old.waiting (initiator_of (with_set set.now) c)
+              (duty_of (slice_index a.cdb 0) (read_of a.cdb a.sent known.old.capacity) a.sent);
+        } }
+{
+    if let Some(i) = place(commands, c) {
+        let accepted = &commands[i];
+        let code = first_byte(accepted.cdb.bytes());
+        let asks = read(&accepted.cdb, &accepted.sent, known.capacity);
+        settle_attentions(
+            &mut known.waiting,
+            &Label::Work(c),
+            set,
+            code,
+            &asks,
+            &Entry::Started { c },
+        );
+    }
 }
 
 // What a command of the set begins with.
@@ -69,7 +116,13 @@ fn first_of(alloc: Global, server: &Server, c: u32) -> Result<First, NoMemory>
 {
     match server.set.member(c) {
         Some(member) => match place(server.commands.as_slice(), c) {
-            Some(i) => first_by(alloc, &server.known, &member, &server.commands[i]),
+            Some(i) => first_by(
+                alloc,
+                server.store.map(),
+                &server.known,
+                &member,
+                &server.commands[i],
+            ),
             None => unreachable!(),
         },
         None => unreachable!(),
@@ -79,6 +132,7 @@ fn first_of(alloc: Global, server: &Server, c: u32) -> Result<First, NoMemory>
 // By the first rule that applies.
 fn first_by(
     alloc: Global,
+    map: &Map,
     known: &Known,
     member: &Member,
     accepted: &Accepted,
@@ -86,10 +140,10 @@ fn first_by(
     requires some { 1 ≤ known.now.capacity }
     requires few { known.now.capacity ≤ 4096 }
     requires served { IsTrue (is_served (read_of accepted.now.cdb accepted.now.sent known.now.capacity)) }
-    ensures { IfOk result (IsFirstBy known.now member.now accepted.now) }
+    ensures { IfOk result (IsFirstBy map.now known.now member.now accepted.now) }
 {
     let code = first_byte(accepted.cdb.bytes());
-    let asks = cdb_reader::read(&accepted.cdb, &accepted.sent, known.capacity);
+    let asks = read(&accepted.cdb, &accepted.sent, known.capacity);
     let plan = first_plan(
         alloc,
         known,
@@ -100,8 +154,43 @@ fn first_by(
     )?;
     match (plan, asks) {
         (Plan::Ending(reply), _) => Ok(First::Reply(reply)),
+        (Plan::Answering(planned, reply), asks) => {
+            let bytes = page(alloc, map, &asks, planned)?;
+            Ok(First::Page { bytes, reply })
+        }
         (_, Ok(command)) => Ok(First::Work(command)),
         (_, Err(_)) => unreachable!(),
+    }
+}
+
+// The data of a command whose plan has these: those of READ DEFECT DATA are the defects of the map.
+fn page(
+    alloc: Global,
+    map: &Map,
+    asks: &Result<Command, Sense>,
+    planned: Bytes,
+) -> Result<Bytes, NoMemory>
+    ensures { IfOk result (λ bytes. bytes ≡ page_of map.now (outcome_of asks.now) planned) }
+{
+    match asks {
+        Ok(
+            Command::ReadDefectData {
+                primary,
+                grown,
+                format,
+                allocation,
+            },
+        ) => {
+            let request = DefectRequest {
+                primary: *primary,
+                grown: *grown,
+                format: *format,
+                allocation: *allocation,
+            };
+            let DefectReply { bytes, .. } = defect_reply(alloc, map, &request)?;
+            Ok(bytes)
+        }
+        _ => Ok(planned),
     }
 }
 

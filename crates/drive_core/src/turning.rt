@@ -4,7 +4,7 @@ ghost use Rattle.std.specs.Option.{option_map};
 ghost use Rattle.drive_core.specs.Accepting.{under_way, errand_of};
 ghost use Rattle.drive_core.specs.Scene.{Scene};
 ghost use Rattle.drive_core.specs.Moves.{Moves, MayWork};
-ghost use Rattle.drive_core.specs.Serving.{MayServe, IsServedTurn};
+ghost use Rattle.drive_core.specs.Serving.{MayServe, IsServedTurn, entries_at_most};
 ghost use Rattle.block_machine.specs.declared.turn.Label.TheVariants.{Work as WorkOn};
 
 use crate::accepted::{Errand, errand_at};
@@ -16,11 +16,28 @@ use crate::starting::start;
 use crate::syncing::sync;
 use crate::taking::Sought;
 use crate::worldly::happen;
-use crate::{Ended, Event, able};
+use crate::{Arrival, Ended, Event, able};
 use block_machine::{Entry, Label};
 use command_engine::Need;
 use disk_base::NoMemory;
 use std::alloc::Global;
+use task_set::TASKS_MAX;
+
+// Most turns have at most so many entries.
+const ENTRIES_MAX: usize = 4;
+
+// A task management function has an entry, and one for each command of the task set.
+const FUNCTION_ENTRIES_MAX: usize = 1 + TASKS_MAX;
+
+/// At most so many entries has the turn of an event.
+pub fn entries_at_most(event: &Event) -> usize
+    ensures { result ≡ entries_at_most event.now }
+{
+    match event {
+        Event::Arrive(Arrival::Function { .. }) => FUNCTION_ENTRIES_MAX,
+        _ => ENTRIES_MAX,
+    }
+}
 
 /// A turn that was made.
 #[derive(Clone, Copy, Debug)]
@@ -38,7 +55,7 @@ pub fn serve(
 ) -> Result<Served, NoMemory>
     requires may { (s : Scene) × MayServe s server.old event }
     requires empty { entries.old.items ≡ [] }
-    requires entry_room { 4 ≤ vec_capacity entries.old }
+    requires entry_room { entries_at_most event ≤ vec_capacity entries.old }
     requires ops_room { 2 ≤ server.old.store.platter.room }
     requires command_room { vec_len server.old.commands + 1 ≤ vec_capacity server.old.commands }
     ensures moves { (s : Scene) → MayServe s server.old event → IfOk result (IsServedTurn s event server.old server.new entries.new.items) }
@@ -52,7 +69,7 @@ pub fn serve(
             None => unreachable!(),
         },
         Event::World(w) => {
-            happen(server, &w);
+            happen(server, &w, entries);
             Ok(Served {
                 label: Label::World(w),
                 ended: None,

@@ -1,22 +1,54 @@
 //! What is done to the drive from outside.
-ghost use Rattle.std.specs.Prelude.{◌≡◌, ◌≤◌, [], None};
+ghost use Rattle.std.specs.Prelude.{◌≡◌, ◌≤◌, [], None, vec_capacity};
+ghost use Rattle.platter_model.specs.declared.world.World.TheVariants as world;
 ghost use Rattle.block_machine.specs.declared.turn.Label.TheVariants as label;
 ghost use Rattle.drive_core.specs.Scene.{Scene};
+ghost use Rattle.drive_core.specs.Fits.{Fits};
 ghost use Rattle.drive_core.specs.Moves.{Moves};
 ghost use Rattle.drive_core.specs.Serving.{MayServe};
 ghost use Rattle.drive_core.specs.declared.event.Event.TheVariants as event;
 
 use crate::server::Server;
 use crate::standing::stands;
-use platter_model::World;
+use block_machine::Entry;
+use platter_model::{Damage, World};
 
-/// Damage comes to a sector.
-pub fn happen(server: &mut Server, w: &World)
+/// Something happens from outside.
+pub fn happen(server: &mut Server, w: &World, entries: &mut Vec<Entry>)
     requires may { (s : Scene) × MayServe s server.old (event.World w.now) }
+    requires empty { entries.old.items ≡ [] }
+    requires entry_room { 1 ≤ vec_capacity entries.old }
     requires room { 1 ≤ server.old.store.platter.room }
-    ensures moves { (s : Scene) → MayServe s server.old (event.World w.now) → Moves (label.World w.now) s server.old server.new [] None }
+    ensures moves { (s : Scene) → MayServe s server.old (event.World w.now)
+        → Moves (label.World w.now) s server.old server.new entries.new.items None }
+{
+    match w {
+        World::Damage(d) => damage(server, *d),
+        World::Minutes(n) => count_minutes(server, *n, entries),
+        // Not served yet.
+        World::Fault(_) | World::Cut | World::Arm { .. } | World::Power => unreachable!(),
+    }
+}
+
+// Damage comes to a sector.
+fn damage(server: &mut Server, d: Damage)
+    requires may { (s : Scene) × MayServe s server.old (event.World (world.Damage d)) }
+    requires room { 1 ≤ server.old.store.platter.room }
+    ensures moves { (s : Scene) → Fits s server.old → Moves (label.World (world.Damage d)) s server.old server.new [] None }
 {
     stands(&server.store);
-    server.store.world(w);
+    server.store.world(&World::Damage(d));
     stands(&server.store);
+}
+
+// Minutes pass. They are counted up to 4,294,967,295.
+fn count_minutes(server: &mut Server, n: u16, entries: &mut Vec<Entry>)
+    requires empty { entries.old.items ≡ [] }
+    requires entry_room { 1 ≤ vec_capacity entries.old }
+    ensures moves { (s : Scene) → Fits s server.old
+        → Moves (label.World (world.Minutes n)) s server.old server.new entries.new.items None }
+{
+    let minutes = &mut server.known.scan.minutes;
+    *minutes = minutes.saturating_add(u32::from(n));
+    entries.push_reserved(Entry::Tick { minutes: n });
 }

@@ -1,4 +1,5 @@
-use Rattle.std.proofs.Common.{◌≡◌, ◌∙◌, sym, ap, Some, None}
+use Rattle.std.proofs.Common.{◌∙◌, sym, subst, Some, None}
+use Rattle.geometry_map.specs.DefectMap.{DefectMap}
 use Rattle.drive_core.proofs.Placing.{placed, there, nowhere}
 use Rattle.drive_core.proofs.StartTurns.{MayStart, may_start, first-known, served_first, in_set, IfOk-map}
 use Rattle.drive_core.specs.Starting.{IsFirst, IsFirstBy}
@@ -31,11 +32,11 @@ unreachable-requires-in-None c =
 pub returns : goal.returns
 returns c s work =
     let may : MayStart s c.args.server.now c.args.c = may_start s c.args.server.now c.args.c work c.requires.waiting in
-    IfOk-map (IsFirstBy c.args.server.now.known c.in-Some.member c.index.result.now) (IsFirst s c.args.c) c.first_by.result
+    IfOk-map (IsFirstBy c.map.result.now c.args.server.now.known c.in-Some.member c.index.result.now) (IsFirst s c.args.c) c.first_by.result
     (λ x is. first-known s c.args.server.now c.args.c x c.in-Some.member c.index.result.now work.fits may
     (sym c.member.ensures ∙ c.in-Some.is)
     (there c.args.server.now.commands.items c.args.c c.in-Some-place.i c.index.result.now c.index.result.now
     (placed c.args.server.now.commands.items c.as_slice.result.now c.args.c c.place.result (Some c.in-Some-place.i) c.as_slice.ensures.value c.place.ensures c.in-Some-place.is)
     c.index.ensures)
-    is)
+    (subst (λ (m : DefectMap). IsFirstBy m c.args.server.now.known c.in-Some.member c.index.result.now x) c.map.ensures is))
     c.first_by.ensures

@@ -1,8 +1,10 @@
-use Rattle.std.proofs.Common.{◌≡◌, sym, subst}
+use Rattle.std.proofs.Common.{◌≡◌, ◌≤◌, sym, subst}
+use Rattle.std.specs.Vec.{vec_capacity}
 use Rattle.drive_core.specs.declared.event.Event.{Event}
 use Rattle.drive_core.specs.declared.event.Event.TheVariants as event
 use Rattle.drive_core.specs.Scene.{Scene}
-use Rattle.drive_core.specs.Serving.{MayServe}
+use Rattle.drive_core.specs.Serving.{MayServe, entries_at_most}
+use Rattle.drive_core.proofs.ArrivalTurns.{room_of_four}
 use Rattle.drive_core.proofs.turning.serve.Goals as goal
 
 pub arrive-requires-clause-may : goal.arrive-requires-clause-may
@@ -20,3 +22,12 @@ serve_work-requires-clause-may c =
 pub serve_work-requires-in-Some-clause-may : goal.serve_work-requires-in-Some-clause-may
 serve_work-requires-in-Some-clause-may c =
     (c.requires.may.0, record { fits = c.requires.may.1.fits; free = c.in-Some.ensures.free c.requires.may.0 c.requires.may.1.fits })
+
+pub arrive-requires-clause-entry_room : goal.arrive-requires-clause-entry_room
+arrive-requires-clause-entry_room c = subst (λ (e : Event). entries_at_most e ≤ vec_capacity c.args.entries.now) c.in-Arrive.is c.requires.entry_room
+
+pub serve_work-requires-clause-entry_room : goal.serve_work-requires-clause-entry_room
+serve_work-requires-clause-entry_room c = room_of_four c.args.event (vec_capacity c.args.entries.now) c.requires.entry_room
+
+pub serve_work-requires-in-Some-clause-entry_room : goal.serve_work-requires-in-Some-clause-entry_room
+serve_work-requires-in-Some-clause-entry_room c = room_of_four c.args.event (vec_capacity c.args.entries.now) c.requires.entry_room

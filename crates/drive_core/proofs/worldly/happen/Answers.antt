@@ -1,14 +1,9 @@
-use Rattle.std.proofs.Common.{refl}
-use Rattle.drive_core.proofs.WorldTurns.{happens, may_happen}
+use Rattle.std.proofs.Common.{subst}
+use Rattle.platter_model.specs.declared.world.World.{World}
+use Rattle.drive_core.specs.declared.event.Event.TheVariants as event
+use Rattle.drive_core.specs.Serving.{MayServe}
 use Rattle.drive_core.proofs.worldly.happen.Goals as goal
 
-pub world-requires-clause-may : goal.world-requires-clause-may
-world-requires-clause-may c =
-    may_happen c.requires.may.0 c.args.server.now c.args.w.now c.requires.may.1.fits c.stands.ensures.there.sectors c.requires.may.1.served
-
-pub returns : goal.returns
-returns c = record {
-  moves = λ s may. happens s c.args.server.now
-      (record { store = c.world.new.self; set = c.args.server.now.set; commands = c.args.server.now.commands; arrived = c.args.server.now.arrived; known = c.args.server.now.known })
-      c.args.w.now may.fits may.served c.world.ensures.after refl refl refl refl c.world.ensures.keeps c.stands-2.ensures.there c.stands-2.ensures.finds c.stands-2.ensures.may;
-}
+pub damage-requires-clause-may : goal.damage-requires-clause-may
+damage-requires-clause-may c =
+    (c.requires.may.0, subst (λ (w : World). MayServe c.requires.may.0 c.args.server.now (event.World w)) c.in-Damage.is c.requires.may.1)

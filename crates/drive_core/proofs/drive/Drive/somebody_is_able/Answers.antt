@@ -6,8 +6,8 @@ use Rattle.drive_core.proofs.Advancing.{somebody_is_able}
 use Rattle.drive_core.proofs.drive.Drive.somebody_is_able.Goals as goal
 
 pub returns : goal.returns
-returns c apart some =
+returns c some =
     let fits : Fits (scene_of c.args.self.now) c.self.inside.server =
     subst (λ (r : Run). Fits (scene_of r) c.self.inside.server) c.self.view_is c.self.invariant.fits in
-    somebody_is_able (scene_of c.args.self.now) c.self.inside.server fits apart (subst IsByAge fits.tasks.set c.members.ensures.by_age)
+    somebody_is_able (scene_of c.args.self.now) c.self.inside.server fits (subst IsByAge fits.tasks.set c.members.ensures.by_age)
     c.some_command_may_run.ensures some
