@@ -9,14 +9,19 @@ const VERSION: &[u8] = b"neprozul 0.1.0\nproved with rattle-kit-13f logic dac820
 
 const HELP: &[u8] = b"drive: the controller firmware of a disk drive, run over a script of commands
 
-usage: drive run < SCRIPT    carries the script out and writes its report
-       drive --help          this text
-       drive --version       the version, and the kit that it is proved with
+usage: drive run < SCRIPT             carries the script out and writes its report
+       drive run --order N < SCRIPT   the same, where the turns of a phase come in an order drawn from N, 0 to 2147483647
+       drive --help                   this text
+       drive --version                the version, and the kit that it is proved with
 
-A script has lines of words parted by one space. Served so far is one line,
-    cmd 1 TAG S CDB
-by which initiator 1 sends the command block CDB, in hexadecimal digits, under a tag from 0 to 65535;
-the command is READ(10) of one block below 912: 2800, eight digits of address, 00000100.
+A script has lines of words parted by one space. Served so far are
+    disk C H S R, primary P    the measures of the drive and its defects, first of all
+    cmd I TAG A CDB [DATA]     a command of initiator I, 1 to 8, with attribute A, S, O or H; any but REASSIGN BLOCKS and MODE SELECT
+    abort I TAG, abortset I, clear I, reset I    a task management function of initiator I
+    go                         what waits is carried out, as it is at the end
+    damage P F L LASTING EFFECT    samples of a sector are lost or changed
+    minutes N                  so many minutes pass
+and lines that begin with #. Any other line that is in order is refused with the word later.
 The report has a line for each turn of the drive, and a summary. docs/FORMATS.md says what stands in it.
 
 exit status: 0 served, 1 wrong words, 2 a script that is refused or too long, 3 a fault of reading,

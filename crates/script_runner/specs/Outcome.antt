@@ -1,14 +1,17 @@
 -- What the top call answers, and what it leaves.
-use Rattle.std.specs.Prelude.{◌≡◌, ◌+◌, ℕ, ◌≤◌, ⊤, List, [], ◌∷◌, ◌++◌, length, codes, decimal, Option, Some, None, Ok, Err, IsOk}
+use Rattle.std.specs.Prelude.{◌≡◌, ◌+◌, ℕ, ◌≤◌, ⊤, List, [], ◌∷◌, ◌++◌, length, codes, decimal, Option, Some, None, Result, Ok, Err, IsOk}
 use Rattle.std.specs.Io.KnownBytes.{Consumes, Appends, Keeps, IsAtEnd}
 use Rattle.outside.specs.Pieces.{ConsumesAtMost, ConsumesExactly, AppendsFront}
-use Rattle.script_runner.specs.declared.script.Why.{Why}
-use Rattle.script_runner.specs.declared.script.Why.TheVariants.{Later}
-use Rattle.script_runner.specs.declared.run.Run.{Run}
+use Rattle.script_text.specs.declared.why.Why.{Why}
+use Rattle.script_text.specs.declared.why.Why.TheVariants.{Bytes, Shape, Number, Hex, Cdb, Disk, Place, Tag, Limit, Later}
+use Rattle.script_text.specs.declared.why.ScriptFault.{ScriptFault}
+use Rattle.script_text.specs.declared.why.ScriptFault.TheVariants as fault
+use Rattle.script_text.specs.Meaning.{script_of, asked_by}
+use Rattle.report_text.specs.declared.run.Run.{Run}
+use Rattle.report_text.specs.declared.run.Form.TheVariants.{Whole}
+use Rattle.report_text.specs.Report.{report_of}
 use Rattle.script_runner.specs.declared.outcome.Outcome.{Outcome}
 use Rattle.script_runner.specs.declared.outcome.Outcome.TheVariants.{Served, Usage, TooLong, Refused, ReadFault, WriteFault, NoMemory}
-use Rattle.script_runner.specs.Script.{script_of}
-use Rattle.script_runner.specs.Report.{report_of}
 use Rattle.script_runner.specs.Run.{IsGood}
 
 -- the most bytes that a script has
@@ -19,24 +22,24 @@ script_limit = 4194304
 abbrev pub ReadsAll : Option (List ℕ) → Option (List ℕ) → (List ℕ → Type 0) → Type 0
 ReadsAll old new P = (bytes : List ℕ) × Consumes old new bytes × IsAtEnd new × (length bytes ≤ script_limit) × P bytes
 
--- bytes mean the script of a run, and the run is a good one
-abbrev pub IsRunOf : Run → List ℕ → Type 0
-IsRunOf run bytes = (script_of bytes ≡ Ok run.script.lines) × IsGood run
+-- bytes mean the script of a run, and the run is a good one by an order
+abbrev pub IsRunOf : Option ℕ → Run → List ℕ → Type 0
+IsRunOf order run bytes = (script_of bytes ≡ Ok (asked_by run.script)) × IsGood order run.script run.turns run.ops
 
--- what was read of the source, by what the call answers
-abbrev pub SourceOf : Option (List ℕ) → Option (List ℕ) → Outcome → Type 0
-SourceOf old new (Served run) = ReadsAll old new (IsRunOf run)
-SourceOf old new (WriteFault run) = ReadsAll old new (IsRunOf run)
-SourceOf old new (Refused line why) = ReadsAll old new (λ bytes. script_of bytes ≡ Err line)
-SourceOf old new TooLong = ConsumesExactly old new (script_limit + 1)
-SourceOf old new ReadFault = ConsumesAtMost old new script_limit
-SourceOf old new NoMemory = ConsumesAtMost old new (script_limit + 1)
-SourceOf old new (Usage word) = ⊤
+-- what was read of the source, by what the call answers, where the turns are to come by an order
+abbrev pub SourceOf : Option ℕ → Option (List ℕ) → Option (List ℕ) → Outcome → Type 0
+SourceOf order old new (Served run) = ReadsAll old new (IsRunOf order run)
+SourceOf order old new (WriteFault run) = ReadsAll old new (IsRunOf order run)
+SourceOf order old new (Refused line why) = ReadsAll old new (λ bytes. script_of bytes ≡ Err (record { line = line; why = why }))
+SourceOf order old new TooLong = ConsumesExactly old new (script_limit + 1)
+SourceOf order old new ReadFault = ConsumesAtMost old new script_limit
+SourceOf order old new NoMemory = ConsumesAtMost old new (script_limit + 1)
+SourceOf order old new (Usage word) = ⊤
 
 -- what the sink got, by what the call answers
 abbrev pub SinkOf : Option (List ℕ) → Option (List ℕ) → Outcome → Type 0
-SinkOf old new (Served run) = Appends old new (report_of run.turns)
-SinkOf old new (WriteFault run) = AppendsFront old new (report_of run.turns)
+SinkOf old new (Served run) = Appends old new (report_of Whole run.turns run.ops)
+SinkOf old new (WriteFault run) = AppendsFront old new (report_of Whole run.turns run.ops)
 SinkOf old new (Refused line why) = Keeps old new
 SinkOf old new TooLong = Keeps old new
 SinkOf old new ReadFault = Keeps old new
@@ -61,6 +64,12 @@ IsWriteFault TooLong = ⊥
 IsWriteFault ReadFault = ⊥
 IsWriteFault NoMemory = ⊥
 IsWriteFault (Usage word) = ⊥
+
+-- what running the bytes of a script by an order answers: a good run of them, or the line that is refused, unless memory ran out
+abbrev pub Ran : Option ℕ → Result Run ScriptFault → List ℕ → Type 0
+Ran order (Ok run) bytes = IsRunOf order run bytes
+Ran order (Err fault.NoMemory) bytes = Unit {0}
+Ran order (Err (fault.Refused line why)) bytes = script_of bytes ≡ Err (record { line = line; why = why })
 
 -- served, or there was no memory
 abbrev pub IsServedIfMemory : Outcome → Type 0
@@ -88,6 +97,15 @@ status_of (WriteFault run) = 4
 status_of NoMemory = 5
 
 abbrev pub why_word : Why → List ℕ
+why_word Bytes = codes "bytes"
+why_word Shape = codes "shape"
+why_word Number = codes "number"
+why_word Hex = codes "hex"
+why_word Cdb = codes "cdb"
+why_word Disk = codes "disk"
+why_word Place = codes "place"
+why_word Tag = codes "tag"
+why_word Limit = codes "limit"
 why_word Later = codes "later"
 
 -- the line that is said of an answer, where it isn't served

@@ -7,11 +7,11 @@ ghost use Rattle.outside.specs.Faults.{Rises};
 ghost use Rattle.outside.specs.Pieces.{AppendsFront};
 ghost use Rattle.script_runner.specs.Outcome.{status_of, said_of, why_word};
 
-use crate::run::Run;
-use crate::script::Why;
 use arrayvec::ArrayVec;
 use itoa::Buffer;
 use outside::{Printed, Sink, offer};
+use report_text::Run;
+use script_text::Why;
 
 // Room for the longest line: its words, and a number as `itoa` may give it.
 const LINE_LENGTH_MAX: usize = 64;
@@ -66,7 +66,7 @@ impl Outcome {
             Outcome::Served(_) => ArrayVec::new(),
             Outcome::Usage { word } => numbered(b"usage: word ", *word, b"\n"),
             Outcome::TooLong => plain(b"too long\n"),
-            Outcome::Refused { line, why } => numbered(b"line ", *line, why.ending()),
+            Outcome::Refused { line, why } => numbered(b"line ", *line, ending(*why)),
             Outcome::ReadFault => plain(b"read fault\n"),
             Outcome::WriteFault(_) => plain(b"write fault\n"),
             Outcome::NoMemory => plain(b"no memory\n"),
@@ -74,15 +74,22 @@ impl Outcome {
     }
 }
 
-impl Why {
-    // What stands behind the line's number.
-    fn ending(&self) -> &'static [u8]
-        ensures text { result.now ≡ codes ": " ++ why_word self.now ++ 10 ∷ [] }
-        ensures short { length result.now ≤ 10 }
-    {
-        match self {
-            Why::Later => b": later\n",
-        }
+// What stands behind the number of a line that is refused.
+fn ending(why: Why) -> &'static [u8]
+    ensures text { result.now ≡ codes ": " ++ why_word why ++ 10 ∷ [] }
+    ensures short { length result.now ≤ 10 }
+{
+    match why {
+        Why::Bytes => b": bytes\n",
+        Why::Shape => b": shape\n",
+        Why::Number => b": number\n",
+        Why::Hex => b": hex\n",
+        Why::Cdb => b": cdb\n",
+        Why::Disk => b": disk\n",
+        Why::Place => b": place\n",
+        Why::Tag => b": tag\n",
+        Why::Limit => b": limit\n",
+        Why::Later => b": later\n",
     }
 }
 

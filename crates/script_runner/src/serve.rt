@@ -1,37 +1,34 @@
 //! The top call: one script in, one report out.
 
-ghost use Rattle.std.specs.Prelude.{◌≡◌, ◌↔◌, ℕ, Some, None, IfOk};
+ghost use Rattle.std.specs.Prelude.{◌≡◌, ◌↔◌, ℕ, Err, IsOk};
 ghost use Rattle.outside.specs.Faults.{Rises};
-ghost use Rattle.script_runner.specs.Script.{script_of};
-ghost use Rattle.script_runner.specs.Words.{texts_of, first_bad_word};
-ghost use Rattle.script_runner.specs.Outcome.{SourceOf, SinkOf, IsQuiet, IsWriteFault, IsServedIfMemory, HasScript};
-ghost use Rattle.script_runner.specs.Ran.{Ran};
+ghost use Rattle.script_runner.specs.Words.{texts_of, order_asked, order_of};
+ghost use Rattle.script_runner.specs.Outcome.{SourceOf, SinkOf, IsQuiet, IsWriteFault, IsServedIfMemory, HasScript, Ran};
 
+use crate::carrying::run_script;
+use crate::order::Order;
 use crate::outcome::Outcome;
-use crate::printing::report;
-use crate::reading::read_script;
-use crate::run::{Run, carry_out};
-use crate::script::ScriptFault;
-use crate::words::first_bad_word;
-use disk_base::Bytes;
-use outside::{Printed, Reading, Sink, Source, offer, read_to_end};
+use crate::words::order_asked;
+use outside::{Printed, Reading, Sink, Source, read_to_end};
+use report_text::{Form, Run, print_run};
+use script_text::{ScriptFault, read_script};
 use std::alloc::Global;
 
 /// The most bytes that a script has.
 const SCRIPT_LIMIT: usize = 4_194_304;
 
 /// Serves one script: the words are read first, then the source, then the script, then the run, and then the report
-/// is printed. The word is `run`.
+/// is printed. The words are `run`, or `run --order` and a number from 0 to 2147483647.
 pub fn serve_alone<S: Source, K: Sink>(
     alloc: Global,
     words: &[&str],
     source: &mut S,
     sink: &mut K,
 ) -> Outcome
-    ensures source { SourceOf (S.left source.old) (S.left source.new) result }
+    ensures source { SourceOf (order_of (texts_of words.now)) (S.left source.old) (S.left source.new) result }
     ensures sink { SinkOf (K.held sink.old) (K.held sink.new) result }
 
-    ensures usage { (word : ℕ) → (result ≡ Outcome.Usage word) ↔ (first_bad_word (texts_of words.now) ≡ Some word) }
+    ensures usage { (word : ℕ) → (result ≡ Outcome.Usage word) ↔ (order_asked (texts_of words.now) ≡ Err word) }
     ensures unread { (word : ℕ) → result ≡ Outcome.Usage word → source.new ≡ source.old }
     ensures quiet { IsQuiet result → sink.new ≡ sink.old }
 
@@ -39,36 +36,40 @@ pub fn serve_alone<S: Source, K: Sink>(
     ensures write_fault { IsWriteFault result → Rises (K.faults sink.old) (K.faults sink.new) }
 
     // Lawful words, a script that is served, and no fault give Served, unless memory runs out.
-    ensures complete { first_bad_word (texts_of words.now) ≡ None → HasScript (S.left source.old)
+    ensures complete { IsOk (order_asked (texts_of words.now)) → HasScript (S.left source.old)
         → ¬ Rises (S.faults source.old) (S.faults source.new) → ¬ Rises (K.faults sink.old) (K.faults sink.new)
         → IsServedIfMemory result }
 {
-    if let Some(word) = first_bad_word(words) {
-        return Outcome::Usage { word };
-    }
+    let order = match order_asked(words) {
+        Ok(x) => Order { x },
+        Err(word) => return Outcome::Usage { word },
+    };
     let bytes = match read_to_end(alloc, source, SCRIPT_LIMIT) {
         Reading::Read(bytes) => bytes,
         Reading::TooLong => return Outcome::TooLong,
         Reading::Failed => return Outcome::ReadFault,
         Reading::NoMemory => return Outcome::NoMemory,
     };
-    let (run, text) = match run_and_report(alloc, bytes.as_slice()) {
-        Ok(both) => both,
+    let run = match run_bytes(alloc, bytes.as_slice(), order) {
+        Ok(run) => run,
         Err(ScriptFault::NoMemory) => return Outcome::NoMemory,
         Err(ScriptFault::Refused { line, why }) => return Outcome::Refused { line, why },
     };
-    match offer(sink, text.as_slice()) {
+    match print_run(&run, Form::Whole, sink) {
         Printed::All => Outcome::Served(run),
         Printed::Fault => Outcome::WriteFault(run),
     }
 }
 
-// The run of a script, and its report.
-fn run_and_report(alloc: Global, bytes: &[u8]) -> Result<(Run, Bytes), ScriptFault>
-    ensures { Ran result bytes.now }
+// The run of a script.
+fn run_bytes(alloc: Global, bytes: &[u8], order: Order) -> Result<Run, ScriptFault>
+    ensures { Ran order.x result bytes.now }
 {
-    let script = read_script(alloc, bytes)?;
-    let turns = carry_out(alloc, script.lines.as_slice())?;
-    let text = report(alloc, turns.as_slice())?;
-    Ok((Run { script, turns }, text))
+    match read_script(alloc, bytes) {
+        Ok(script) => match run_script(alloc, script, order) {
+            Ok(run) => Ok(run),
+            Err(_) => Err(ScriptFault::NoMemory),
+        },
+        Err(fault) => Err(fault),
+    }
 }

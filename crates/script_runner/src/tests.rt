@@ -1,5 +1,4 @@
 use super::*;
-use crate::script::Why;
 use disk_base::{Bytes, Calls};
 use outside::{MemorySink, MemorySource, Printed};
 use std::alloc::Global;
@@ -8,31 +7,29 @@ use std::test::Fail;
 
 const EMPTY: &[u8] = b"turns 0 commands 0 good 0 check 0 full 0 aborted 0 cut 0 strays 0\n";
 
-const READ: &[u8] = b"cmd 1 8 S 28000000000000000100";
+// A drive of 48 sectors, so that its factory is quick.
+const SMALL: &[u8] = b"disk 1 1 48 2\n";
 
-const READ_REPORT: &[u8] = b"1 arrive 1 > in 1 1 8 S 28000000000000000100 -
-2 work 1 > start 1
-3 work 1 > get 1 0 *00 > end 1 00
-turns 3 commands 1 good 1 check 0 full 0 aborted 0 cut 0 strays 0
+// The first command of an initiator is told that the power came on.
+const FIRST: &[u8] = b"disk 1 1 48 2\ncmd 1 7 S 000000000000\n";
+
+const FIRST_REPORT: &[u8] = b"1 arrive 1 > in 1 1 7 S 000000000000 -
+2 work 1 > start 1 > end 1 02 700006000000000A00000000290100000000
+turns 2 commands 1 good 0 check 1 full 0 aborted 0 cut 0 strays 0
 ";
 
-const LAST: &[u8] = b"cmd 1 65535 S 28000000038f00000100\n";
-
-const LAST_REPORT: &[u8] = b"1 arrive 1 > in 1 1 65535 S 28000000038F00000100 -
-2 work 1 > start 1
-3 work 1 > get 1 911 *00 > end 1 00
-turns 3 commands 1 good 1 check 0 full 0 aborted 0 cut 0 strays 0
-";
-
-fn bytes(alloc: Global, text: &[u8]) -> Result<Bytes, Fail> {
+pub(crate) fn bytes(alloc: Global, text: &[u8]) -> Result<Bytes, Fail> {
     Ok(Bytes::from_vec(text.to_vec(alloc)?))
 }
 
-fn calls(alloc: Global, failing: &[u64]) -> Result<Calls, Fail> {
+pub(crate) fn calls(alloc: Global, failing: &[u64]) -> Result<Calls, Fail> {
     Ok(Calls::from_vec(failing.to_vec(alloc)?))
 }
 
-// The outcome of a script that comes seven bytes a call, and what the sink got, ten bytes a call.
+// So many bytes the sink takes a call.
+const TAKEN: u64 = 64;
+
+// The outcome of a script that comes seven bytes a call, and what the sink got.
 fn served(
     alloc: Global,
     script: &[u8],
@@ -41,7 +38,7 @@ fn served(
     write_fails: &[u64],
 ) -> Result<(Outcome, Bytes), Fail> {
     let mut source = MemorySource::new(bytes(alloc, script)?, 7, calls(alloc, read_fails)?);
-    let mut sink = MemorySink::new(alloc, room, 10, calls(alloc, write_fails)?)?;
+    let mut sink = MemorySink::new(alloc, room, TAKEN as usize, calls(alloc, write_fails)?)?;
     let outcome = serve_alone(alloc, &["run"], &mut source, &mut sink);
     let got = bytes(alloc, sink.bytes())?;
     Ok((outcome, got))
@@ -57,48 +54,23 @@ fn said(alloc: Global, outcome: &Outcome) -> Result<Bytes, Fail> {
 }
 
 #[test]
-fn reports(rt: HostRuntime) -> Result<(), Fail> {
-    for (script, report) in [
-        (b"".as_slice(), EMPTY),
-        (READ, READ_REPORT),
-        (LAST, LAST_REPORT),
-    ] {
-        let (outcome, got) = served(rt.alloc(), script, &[], 1000, &[])?;
-        assert_eq!(rt; outcome.status(), 0);
-        assert_eq!(rt; got.as_slice(), report);
-        assert_eq!(rt; said(rt.alloc(), &outcome)?.as_slice(), b"".as_slice());
-    }
-    Ok(())
-}
-
-#[test]
 fn refusals(rt: HostRuntime) -> Result<(), Fail> {
-    let line_1 = b"line 1: later\n".as_slice();
-    let line_2 = b"line 2: later\n".as_slice();
     for (script, line) in [
-        (b"\n".as_slice(), line_1),
-        (b"cmd 1 8 S 28000000039000000100".as_slice(), line_1),
-        (b"cmd 2 8 S 28000000000000000100".as_slice(), line_1),
-        (b"cmd 1 08 S 28000000000000000100".as_slice(), line_1),
-        (b"cmd 1 65536 S 28000000000000000100".as_slice(), line_1),
-        (b"cmd 1  S 28000000000000000100".as_slice(), line_1),
-        (b"cmd 1 8 O 28000000000000000100".as_slice(), line_1),
-        (b"cmd 1 8 S 2800000000000000010g".as_slice(), line_1),
-        (b"cmd 1 8 S 280000000000000001".as_slice(), line_1),
-        (b"cmd 1 8 S 28000000000000000100 ".as_slice(), line_1),
-        (b"cmd 1 8 S 28000000000000000100\n\n".as_slice(), line_2),
-        (b"cmd 1 8 S 28000000000000000100\ngo\n".as_slice(), line_2),
+        (b"cmd 1 1 S 0000".as_slice(), b"line 1: cdb\n".as_slice()),
+        (b"\n\ncmd 1 1\n", b"line 3: shape\n"),
+        (b"cmd 9 1 S 28000000000000000100", b"line 1: number\n"),
+        (b"cmd 2 1 S 070000000000", b"line 1: later\n"),
+        (b"cmd 1 1 O 151000001800", b"line 1: later\n"),
+        (b"cmd 1 1 S 55100000000000001C00", b"line 1: later\n"),
+        (b"scan 1\n", b"line 1: later\n"),
+        (b"destage 1\n", b"line 1: later\n"),
+        (b"fault 16\n", b"line 1: later\n"),
+        (b"cut now\n", b"line 1: later\n"),
+        (b"cut write 1 none 0\n", b"line 1: later\n"),
+        (b"power\n", b"line 1: later\n"),
+        (b"disk 1 1 1 0\n", b"line 1: disk\n"),
     ] {
         let (outcome, got) = served(rt.alloc(), script, &[], 1000, &[])?;
-        assert!(rt;
-            matches!(
-                &outcome,
-                Outcome::Refused {
-                    why: Why::Later,
-                    ..
-                }
-            )
-        );
         assert_eq!(rt; outcome.status(), 2);
         assert_eq!(rt; got.as_slice(), b"".as_slice());
         assert_eq!(rt; said(rt.alloc(), &outcome)?.as_slice(), line);
@@ -107,7 +79,7 @@ fn refusals(rt: HostRuntime) -> Result<(), Fail> {
 }
 
 fn refused_words(rt: &impl Abort, alloc: Global, words: &[&str], line: &[u8]) -> Result<(), Fail> {
-    let mut source = MemorySource::new(bytes(alloc, READ)?, 7, calls(alloc, &[])?);
+    let mut source = MemorySource::new(bytes(alloc, FIRST)?, 7, calls(alloc, &[])?);
     let mut sink = MemorySink::new(alloc, 1000, 10, calls(alloc, &[])?)?;
     let outcome = serve_alone(alloc, words, &mut source, &mut sink);
     assert_eq!(rt; outcome.status(), 1);
@@ -122,15 +94,30 @@ fn words(rt: HostRuntime) -> Result<(), Fail> {
     refused_words(&rt, alloc, &[], b"usage: word 1\n")?;
     refused_words(&rt, alloc, &["race"], b"usage: word 1\n")?;
     refused_words(&rt, alloc, &["run", "--brief"], b"usage: word 2\n")?;
-    refused_words(&rt, alloc, &["", "run"], b"usage: word 1\n")
+    refused_words(&rt, alloc, &["make", "1"], b"usage: word 1\n")?;
+    refused_words(&rt, alloc, &["", "run"], b"usage: word 1\n")?;
+    refused_words(&rt, alloc, &["run", "--order"], b"usage: word 3\n")?;
+    refused_words(&rt, alloc, &["run", "--order", "07"], b"usage: word 3\n")?;
+    refused_words(
+        &rt,
+        alloc,
+        &["run", "--order", "2147483648"],
+        b"usage: word 3\n",
+    )?;
+    refused_words(
+        &rt,
+        alloc,
+        &["run", "--order", "7", "x"],
+        b"usage: word 4\n",
+    )
 }
 
-// Thirty bytes come in five calls, and the sixth finds the end.
+// 37 bytes come in six calls, and the seventh finds the end.
 #[test]
 fn each_read_fails(rt: HostRuntime) -> Result<(), Fail> {
-    for call in 1..=7u64 {
-        let (outcome, got) = served(rt.alloc(), READ, &[call], 1000, &[])?;
-        if call <= 6 {
+    for call in 1..=8u64 {
+        let (outcome, got) = served(rt.alloc(), FIRST, &[call], 1000, &[])?;
+        if call <= 7 {
             assert_eq!(rt; outcome.status(), 3);
             assert_eq!(rt; got.as_slice(), b"".as_slice());
             assert_eq!(rt;
@@ -144,27 +131,27 @@ fn each_read_fails(rt: HostRuntime) -> Result<(), Fail> {
     Ok(())
 }
 
-// Each write takes ten bytes.
 #[test]
 fn each_write_fails(rt: HostRuntime) -> Result<(), Fail> {
-    let whole = READ_REPORT.len() as u64;
-    for call in 1..=whole.div_ceil(10) + 1 {
-        let (outcome, got) = served(rt.alloc(), READ, &[], 1000, &[call])?;
-        let before = (10 * (call - 1)).min(whole) as usize;
+    let whole = FIRST_REPORT.len() as u64;
+    for call in 1..=whole.div_ceil(TAKEN) + 1 {
+        let (outcome, got) = served(rt.alloc(), FIRST, &[], 1000, &[call])?;
+        let before = (TAKEN * (call - 1)).min(whole) as usize;
         assert_eq!(rt;
             outcome.status(),
-            if call <= whole.div_ceil(10) { 4 } else { 0 }
+            if call <= whole.div_ceil(TAKEN) { 4 } else { 0 }
         );
-        assert!(rt; before <= READ_REPORT.len());
-        assert_eq!(rt; got.as_slice(), &READ_REPORT[..before]);
+        assert!(rt; before <= FIRST_REPORT.len());
+        assert_eq!(rt; got.as_slice(), &FIRST_REPORT[..before]);
     }
     Ok(())
 }
 
+// A sink with no room left, with room for one byte, for all but one, and for all.
 #[test]
-fn each_room(rt: HostRuntime) -> Result<(), Fail> {
-    for room in 0..=EMPTY.len() {
-        let (outcome, got) = served(rt.alloc(), b"", &[], room, &[])?;
+fn rooms(rt: HostRuntime) -> Result<(), Fail> {
+    for room in [0, 1, EMPTY.len() - 1, EMPTY.len()] {
+        let (outcome, got) = served(rt.alloc(), SMALL, &[], room, &[])?;
         assert_eq!(rt; outcome.status(), if room < EMPTY.len() { 4 } else { 0 });
         assert_eq!(rt; got.as_slice(), &EMPTY[..room]);
         if room < EMPTY.len() {
@@ -190,7 +177,7 @@ fn limits(rt: HostRuntime) -> Result<(), Fail> {
     let at_the_limit = served_zeros(rt.alloc(), 4_194_304)?;
     assert_eq!(rt;
         said(rt.alloc(), &at_the_limit)?.as_slice(),
-        b"line 1: later\n".as_slice()
+        b"line 1: bytes\n".as_slice()
     );
     let past_it = served_zeros(rt.alloc(), 4_194_305)?;
     assert_eq!(rt; past_it.status(), 2);

@@ -1,0 +1,118 @@
+-- Examples of phases, of the order of turns, and of turns that carry lines out.
+use Rattle.std.proofs.Common.{◌≡◌, refl, ℕ, true, false, [], ◌∷◌, Some, None}
+use Rattle.disk_base.specs.declared.command.Attribute.TheVariants.{Simple}
+use Rattle.disk_base.specs.declared.command.DataOut.TheVariants.{Nothing}
+use Rattle.cdb_reader.specs.declared.plan.Plan.TheVariants.{Reading, Syncing, Over}
+use Rattle.block_machine.specs.declared.entry.Entry.TheVariants.{Arrived}
+use Rattle.block_machine.specs.declared.turn.Label.TheVariants as label
+use Rattle.block_machine.specs.Attentions.{attentions_at_start}
+use Rattle.block_machine.specs.State.{state_at_start}
+use Rattle.platter_model.specs.declared.world.World.TheVariants as world
+use Rattle.script_text.specs.declared.script.Line.{Line}
+use Rattle.script_text.specs.declared.script.Line.TheVariants.{Command, Go, World}
+use Rattle.drive_core.specs.declared.event.Arrival.{Arrival}
+use Rattle.drive_core.specs.declared.event.Arrival.TheVariants as arrival
+use Rattle.drive_core.specs.Scene.{Scene, Beat}
+use Rattle.script_runner.specs.Arrivals.{Sends, sends_of, lines_of, arrived_in}
+use Rattle.script_runner.specs.Order.{drawn, number_of}
+use Rattle.script_runner.specs.Phase.{IsPhase, IsPicked, ByOrder}
+use Rattle.script_runner.specs.CarriedOut.{CarryOut}
+use Rattle.script_runner.specs.Measure.{steps_of}
+
+-- a READ (10) of block 0, under a tag
+abbrev sent : ℕ → ℕ → Arrival
+sent i t = arrival.Command i (record { 0 = t }) Simple (0x28 ∷ 0 ∷ 0 ∷ 0 ∷ 0 ∷ 0 ∷ 0 ∷ 0 ∷ 1 ∷ 0 ∷ []) Nothing
+
+abbrev line : ℕ → ℕ → Line
+line i t = Command i (record { 0 = t }) Simple (0x28 ∷ 0 ∷ 0 ∷ 0 ∷ 0 ∷ 0 ∷ 0 ∷ 0 ∷ 1 ∷ 0 ∷ []) Nothing
+
+abbrev came : ℕ → ℕ → ℕ → Beat
+came c i t = record { label = label.Arrive i; entries = Arrived c i (record { 0 = t }) Simple (0x28 ∷ 0 ∷ 0 ∷ 0 ∷ 0 ∷ 0 ∷ 0 ∷ 0 ∷ 1 ∷ 0 ∷ []) Nothing ∷ []; ops = [] }
+
+-- lines have an initiator send its own commands, in order; `go` and events from outside send nothing
+of_first : lines_of (line 1 7 ∷ line 2 8 ∷ Go ∷ line 1 9 ∷ World world.Cut ∷ []) 1 ≡ sent 1 7 ∷ sent 1 9 ∷ []
+of_first = refl
+
+of_second : lines_of (line 1 7 ∷ line 2 8 ∷ Go ∷ line 1 9 ∷ World world.Cut ∷ []) 2 ≡ sent 2 8 ∷ []
+of_second = refl
+
+-- so do turns
+in_turns : arrived_in 1 (came 1 1 7 ∷ came 2 2 8 ∷ came 3 1 9 ∷ []) ≡ sent 1 7 ∷ sent 1 9 ∷ []
+in_turns = refl
+
+abbrev both_wait : Sends
+both_wait = sends_of ((sent 1 7 ∷ []) ∷ (sent 2 8 ∷ []) ∷ [] ∷ [] ∷ [] ∷ [] ∷ [] ∷ [] ∷ [])
+
+-- numbers of an order that begins with 3
+of_three : drawn (Some 3) ≡ Some 1163074432
+of_three = refl
+
+its_pick : number_of (Some 1163074432) ≡ 17747
+its_pick = refl
+
+-- none is drawn where no order is asked for
+of_none : number_of (drawn None) ≡ 0
+of_none = refl
+
+module _ (s : Scene) where
+  abbrev fresh : Scene
+  fresh = record s { hist = state_at_start attentions_at_start }
+
+  -- of two that have something to send the first comes first, and then the second
+  first_comes : IsPicked both_wait (record { scene = fresh; came = []; order = None }) (came 1 1 7)
+  first_comes = refl
+
+  second_waits : IsPicked both_wait (record { scene = fresh; came = []; order = None }) (came 1 2 8) → ⊥
+  second_waits e = cc
+
+  second_comes : IsPicked both_wait (record { scene = fresh; came = came 1 1 7 ∷ []; order = None }) (came 2 2 8)
+  second_comes = refl
+
+  -- by an order the number that is drawn for a turn picks it
+  second_is_drawn : IsPicked both_wait (record { scene = fresh; came = []; order = Some 3 }) (came 1 2 8)
+  second_is_drawn = refl
+
+  first_is_not : IsPicked both_wait (record { scene = fresh; came = []; order = Some 3 }) (came 1 1 7) → ⊥
+  first_is_not e = cc
+
+  -- nothing comes where nothing waits
+  none_comes : IsPicked (λ i. []) (record { scene = fresh; came = []; order = None }) (came 1 1 7) → ⊥
+  none_comes e = cc
+
+  -- no turns are a phase in which nothing is to be sent
+  empty_phase : IsPhase fresh (λ i. []) []
+  empty_phase = record { kinds = refl; arrivals = λ i. refl; idle = refl }
+
+  -- a phase that leaves what is to be sent is none
+  left_out : IsPhase fresh both_wait [] → ⊥
+  left_out phase = let e = phase.arrivals 1 in cc
+
+  -- nor is one with other arrivals, or in another order
+  another_order : IsPhase fresh (sends_of ((sent 1 7 ∷ sent 1 9 ∷ []) ∷ [])) (came 1 1 9 ∷ came 2 1 7 ∷ []) → ⊥
+  another_order phase = let e = phase.arrivals 1 in cc
+
+  -- nor one with a turn from outside in it
+  from_outside : IsPhase fresh (λ i. []) (record { label = label.World world.Cut; entries = []; ops = [] } ∷ []) → ⊥
+  from_outside phase = let e = phase.kinds in cc
+
+  -- lines without any are carried out by no turn
+  nothing_asked : CarryOut ByOrder None fresh [] [] []
+  nothing_asked = record { phase = empty_phase; by_rule = tt }
+
+  -- an event from outside needs its turn
+  event_left_out : CarryOut ByOrder None fresh [] (World world.Cut ∷ []) [] → ⊥
+  event_left_out out = let e = out.2 in cc
+
+  -- with its label
+  another_event : CarryOut ByOrder None fresh [] (World world.Cut ∷ []) (record { label = label.World world.Power; entries = []; ops = [] } ∷ []) → ⊥
+  another_event out = let e = out.2 in let l = out.3 in cc
+
+-- two entries a block that is read, and the end
+of_a_read : steps_of (Reading (record { at = 3; end = 5; through = true; reports = false; hardened = false })) ≡ 6
+of_a_read = refl
+
+of_a_sync : steps_of (Syncing (record { at = 0; end = 912 })) ≡ 913
+of_a_sync = refl
+
+of_nothing : steps_of Over ≡ 0
+of_nothing = refl

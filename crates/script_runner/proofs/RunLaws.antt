@@ -1,0 +1,138 @@
+-- Laws on good runs.
+use Rattle.std.proofs.Common.{◌≡◌, ◌∙◌, ap, sym, refl, subst, ℕ, ◌≤◌, true, List, [], ◌∷◌, ◌++◌, ◌+◌, map, length, arith, append_assoc}
+use Rattle.std.specs.Prelude.{fold, Option}
+use Rattle.std.proofs.lemmas.List.{append-nil}
+use Rattle.disk_base.specs.Along.{Along}
+use Rattle.geometry_map.specs.Size.{capacity_of}
+use Rattle.platter_model.specs.declared.op.Op.{Op}
+use Rattle.platter_model.specs.TrueLog.{strays, strays_from}
+use Rattle.script_text.specs.declared.script.Line.{Line}
+use Rattle.script_text.specs.declared.script.Line.TheVariants.{Go, World}
+use Rattle.block_machine.specs.declared.entry.Entry.{Entry}
+use Rattle.block_machine.specs.declared.entry.Entry.TheVariants.{Get}
+use Rattle.block_machine.specs.declared.turn.Turn.{Turn}
+use Rattle.block_machine.specs.Attentions.{attentions_at_start}
+use Rattle.block_machine.specs.History.{legal_from, task_legal_from, turns_after, entries_of}
+use Rattle.block_machine.specs.Laws.{OfLegalHistories, OfTaskLegalHistories, tally_of}
+use Rattle.block_machine.specs.State.{State}
+use Rattle.block_machine.specs.Steps.{begun, entry_after}
+use Rattle.block_machine.specs.Turns.{turn_after, turn_lawful, tasks_lawful, blocks_lawful}
+use Rattle.block_machine.proofs.BlockLaws.{beginnings_are_legal}
+use Rattle.block_machine.proofs.Booleans.{and_both}
+use Rattle.block_machine.proofs.Counting.{commands_are_accounted_for}
+use Rattle.task_set.specs.Members.{numbers}
+use Rattle.drive_core.specs.Scene.{Scene, Beat, capacity, scene_after, scene_at_start}
+use Rattle.drive_core.specs.Evidence.{Shows}
+use Rattle.drive_core.specs.GoodTurn.{GoodTurn}
+use Rattle.drive_core.specs.Run.{beat_of}
+use Rattle.script_runner.specs.Order.{order_after}
+use Rattle.script_runner.specs.Phase.{ByOrder}
+use Rattle.script_runner.specs.CarriedOut.{CarryOut}
+use Rattle.script_runner.specs.Run.{beats_of, drive_run}
+use Rattle.script_runner.specs.Laws.{OfGoodRuns, OfRunsWithoutStrays, AreLegal, AreTaskLegal, BeginningsAreLegal, NoneIsLeft, AllThatCameAreGone, GetsAreShown}
+use Rattle.script_runner.proofs.Beats.{fold_parts}
+
+-- strays of a beginning are some of all
+strays_more : (before xs ys : List Op) → strays_from before xs ≤ strays_from before (xs ++ ys)
+strays_more before [] ys = omega arith
+strays_more before (x ∷ xs) ys = let rest = strays_more (before ++ x ∷ []) xs ys in omega arith
+
+-- the operations so far are a beginning of those at the end
+pub ops_begin : (s : Scene) (turns : List Beat) → (more : List Op) × ((fold scene_after s turns).ops ≡ s.ops ++ more)
+ops_begin s [] = ([], sym (append-nil s.ops))
+ops_begin s (t ∷ turns) = let rest = ops_begin (scene_after s t) turns in (t.ops ++ rest.0, rest.1 ∙ append_assoc s.ops t.ops rest.0)
+
+pub none_before : (s : Scene) (turns : List Beat) → strays (fold scene_after s turns).ops ≡ 0 → strays s.ops ≡ 0
+none_before s turns none =
+    let rest = ops_begin s turns in
+    let some = strays_more [] s.ops rest.0 in
+    let all = ap strays rest.1 in
+    omega arith
+
+legal_along : (ops : List Op) (turns : List Turn) (s : Scene) (blocks : ℕ) → capacity s ≡ blocks → Along scene_after GoodTurn s (map (beat_of ops) turns)
+    → strays (fold scene_after s (map (beat_of ops) turns)).ops ≡ 0 → legal_from blocks s.hist turns ≡ true
+legal_along ops [] s blocks is all none = refl
+legal_along ops (t ∷ turns) s blocks is all none =
+    let now = none_before (scene_after s (beat_of ops t)) (map (beat_of ops) turns) none in
+    let lawful : turn_lawful (capacity s) s.hist t ≡ true = and_both (tasks_lawful (capacity s) s.hist t) (blocks_lawful (capacity s) s.hist.blocks t.entries) all.0.tasks (all.0.blocks now) in
+    let rest = legal_along ops turns (scene_after s (beat_of ops t)) blocks is all.1 none in
+    and_both (turn_lawful blocks s.hist t) (legal_from blocks (turn_after blocks s.hist t) turns)
+    (subst (λ (n : ℕ). turn_lawful n s.hist t ≡ true) is lawful)
+    (subst (λ (n : ℕ). legal_from blocks (turn_after n s.hist t) turns ≡ true) is rest)
+
+pub runs_are_legal : OfRunsWithoutStrays AreLegal
+runs_are_legal order script turns ops good none =
+    legal_along ops turns (scene_at_start good.size script.primary.items) (capacity_of good.size) refl good.history.good (ap strays good.history.own ∙ none)
+
+-- as far as commands go, turns are legal whatever was taken for another payload
+tasks_along : (ops : List Op) (turns : List Turn) (s : Scene) (blocks : ℕ) → capacity s ≡ blocks → Along scene_after GoodTurn s (map (beat_of ops) turns)
+    → task_legal_from blocks s.hist turns ≡ true
+tasks_along ops [] s blocks is all = refl
+tasks_along ops (t ∷ turns) s blocks is all =
+    let rest = tasks_along ops turns (scene_after s (beat_of ops t)) blocks is all.1 in
+    and_both (tasks_lawful blocks s.hist t) (task_legal_from blocks (turn_after blocks s.hist t) turns)
+    (subst (λ (n : ℕ). tasks_lawful n s.hist t ≡ true) is all.0.tasks)
+    (subst (λ (n : ℕ). task_legal_from blocks (turn_after n s.hist t) turns ≡ true) is rest)
+
+pub runs_are_task_legal : OfGoodRuns AreTaskLegal
+runs_are_task_legal order script turns ops good =
+    tasks_along ops turns (scene_at_start good.size script.primary.items) (capacity_of good.size) refl good.history.good
+
+-- what holds of each legal history holds of each run without strays
+pub of_legal : (Fact : ℕ → List Turn → Type 0) → OfLegalHistories Fact → OfRunsWithoutStrays Fact
+of_legal Fact law order script turns ops good none = law (capacity_of good.size) attentions_at_start turns (runs_are_legal order script turns ops good none)
+
+-- .. and what holds of each that is legal as far as commands go of each run
+pub of_task_legal : (Fact : ℕ → List Turn → Type 0) → OfTaskLegalHistories Fact → OfGoodRuns Fact
+of_task_legal Fact law order script turns ops good = law (capacity_of good.size) attentions_at_start turns (runs_are_task_legal order script turns ops good)
+
+pub runs_begin_legally : OfRunsWithoutStrays BeginningsAreLegal
+runs_begin_legally order script turns ops good none first more is =
+    beginnings_are_legal (capacity_of good.size) attentions_at_start first more
+    (subst (λ (ts : List Turn). AreLegal (capacity_of good.size) ts) is (runs_are_legal order script turns ops good none))
+
+-- the state after turns is that of their scene
+state_along : (ops : List Op) (turns : List Turn) (s : Scene) (blocks : ℕ) → capacity s ≡ blocks → (fold scene_after s (map (beat_of ops) turns)).hist ≡ turns_after blocks s.hist turns
+state_along ops [] s blocks is = refl
+state_along ops (t ∷ turns) s blocks is =
+    state_along ops turns (scene_after s (beat_of ops t)) blocks is ∙ ap (λ (n : ℕ). turns_after blocks (turn_after n s.hist t) turns) is
+
+-- the last phase leaves no command
+empty_at_end : (lines : List Line) (order : Option ℕ) (s : Scene) (waiting : List Line) (turns : List Beat) → CarryOut ByOrder order s waiting lines turns → (fold scene_after s turns).hist.set ≡ []
+empty_at_end [] order s waiting turns out = out.phase.idle
+empty_at_end (Go ∷ lines) order s waiting turns out =
+    subst (λ (ts : List Beat). (fold scene_after s ts).hist.set ≡ []) (sym out.2)
+    (subst (λ (k : Scene). k.hist.set ≡ []) (sym (fold_parts scene_after s out.0 out.1)) (empty_at_end lines (order_after order out.0) (fold scene_after s out.0) [] out.1 out.4))
+empty_at_end (World w ∷ lines) order s waiting turns out =
+    subst (λ (ts : List Beat). (fold scene_after s ts).hist.set ≡ []) (sym out.2) (empty_at_end lines order (scene_after s out.0) waiting out.1 out.4)
+empty_at_end (line ∷ lines) order s waiting turns out = empty_at_end lines order s (waiting ++ line ∷ []) turns out
+
+pub none_is_left : OfGoodRuns NoneIsLeft
+none_is_left order script turns ops good =
+    let start = scene_at_start good.size script.primary.items in
+    subst (λ (h : State). h.set ≡ []) (state_along ops turns start (capacity_of good.size) refl)
+    (empty_at_end script.lines order start [] (beats_of (drive_run good.size script turns ops)) good.carried_out)
+
+-- a count of none more
+none_inside : (inside : List ℕ) (came sum : ℕ) → inside ≡ [] → came ≡ sum + length inside → came ≡ sum
+none_inside inside came sum none all = let empty : length inside ≡ 0 = ap length none in omega arith
+
+pub all_are_gone : OfGoodRuns AllThatCameAreGone
+all_are_gone order script turns ops good =
+    let blocks = capacity_of good.size in
+    let t = tally_of (entries_of turns) in
+    let counts = commands_are_accounted_for blocks attentions_at_start turns (runs_are_task_legal order script turns ops good) in
+    none_inside t.inside t.came (t.ended + t.aborted + t.cut) (counts.1 ∙ ap numbers (none_is_left order script turns ops good)) counts.0
+
+-- the rule of one item among several
+pub along_at : {S T : Type 0} (step : S → T → S) (P : S → T → Type 0) (s : S) (xs ys : List T) (x : T) → Along step P s (xs ++ x ∷ ys) → P (fold step s xs) x
+along_at step P s [] ys x all = all.0
+along_at step P s (z ∷ xs) ys x all = along_at step P (step s z) xs ys x all.1
+
+pub gets_are_shown : GetsAreShown
+gets_are_shown order script turns ops good before after t earlier rest c b v is_t is_e clean =
+    let start = scene_at_start good.size script.primary.items in
+    let turn = along_at scene_after GoodTurn start before after t (subst (λ (ts : List Beat). Along scene_after GoodTurn start ts) is_t good.history.good) in
+    let s = fold scene_after start before in
+    along_at (entry_after (capacity s) t.label) (Shows s t) (begun s.hist t.label) earlier rest (Get c b v)
+    (subst (λ (es : List Entry). Along (entry_after (capacity s) t.label) (Shows s t) (begun s.hist t.label) es) is_e turn.shown) clean

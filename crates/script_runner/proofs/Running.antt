@@ -1,0 +1,32 @@
+-- A script that a fresh drive carried out has a good run.
+use Rattle.std.proofs.Common.{◌≡◌, ◌∙◌, ap, sym, refl, subst, ℕ, List, [], ◌++◌, map}
+use Rattle.std.specs.Prelude.{Option}
+use Rattle.disk_base.specs.declared.address.Psn.{Psn}
+use Rattle.geometry_map.specs.declared.size.Size.{Size}
+use Rattle.platter_model.specs.declared.op.Op.{Op}
+use Rattle.block_machine.specs.declared.turn.Turn.{Turn}
+use Rattle.script_text.specs.declared.script.Script.{Script}
+use Rattle.drive_core.specs.Scene.{Scene, Beat, scene_at_start}
+use Rattle.drive_core.specs.Run.{Run, IsGoodRun, beat_of, scene_of}
+use Rattle.script_runner.specs.CarriedOut.{CarryOut}
+use Rattle.script_runner.specs.Leading.{CarriesOut}
+use Rattle.script_runner.specs.Phase.{ByOrder}
+use Rattle.script_runner.specs.Run.{IsGood, beats_of, drive_run}
+use Rattle.script_runner.specs.Script.{IsFresh}
+
+pub good_run : (order : Option ℕ) (script : Script) (start done : Run) (turns : List Turn) (ops : List Op) → IsFresh script start
+    → CarriesOut start order script.lines done → IsGoodRun done → turns ≡ done.turns → ops ≡ done.ops → IsGood order script turns ops
+good_run order script start done turns ops fresh out good turns_are ops_are =
+    let size : done.size ≡ fresh.size = out.size ∙ ap (λ (r : Run). r.size) fresh.is in
+    let primary : done.primary ≡ script.primary.items = out.primary ∙ ap (λ (r : Run). r.primary) fresh.is in
+    let from : scene_of start ≡ scene_at_start fresh.size script.primary.items = ap scene_of fresh.is in
+    let own : out.own ≡ beats_of (drive_run fresh.size script turns ops) =
+    sym (out.beats ∙ ap (λ (bs : List Beat). bs ++ out.own) (ap beats_of fresh.is)) ∙ (λ i. map (beat_of (sym ops_are i)) (sym turns_are i)) in
+    record {
+      size = fresh.size;
+      measures = fresh.measures;
+      history = subst IsGoodRun (λ i. let r : Run = record { size = size i; primary = primary i; turns = sym turns_are i; ops = sym ops_are i; coming = 0 } in r)
+          (record { follow = good.follow; own = good.own; log = good.log; good = good.good; valid = good.valid });
+      carried_out = subst (λ (bs : List Beat). CarryOut ByOrder order (scene_at_start fresh.size script.primary.items) [] script.lines bs) own
+          (subst (λ (s : Scene). CarryOut ByOrder order s [] script.lines out.own) from out.carried);
+    }

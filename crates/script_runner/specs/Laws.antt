@@ -1,0 +1,83 @@
+-- What holds of every good run of a script.
+use Rattle.std.specs.Prelude.{◌≡◌, ℕ, ◌+◌, false, IsTrue, List, [], ◌∷◌, ◌++◌, fold, slice_get, Option, Some}
+use Rattle.disk_base.specs.declared.address.Lba.{Lba}
+use Rattle.disk_base.specs.declared.address.Psn.{Psn}
+use Rattle.disk_base.specs.declared.block.Value.{Value}
+use Rattle.disk_base.specs.declared.block.Value.TheVariants.{Lost}
+use Rattle.disk_base.specs.declared.stage.Stage.{Stage}
+use Rattle.read_recovery.specs.Stages.{stages_of}
+use Rattle.geometry_map.specs.declared.size.Size.{Size}
+use Rattle.geometry_map.specs.DefectMap.{place_of}
+use Rattle.geometry_map.specs.Size.{capacity_of}
+use Rattle.platter_model.specs.declared.op.Op.{Op}
+use Rattle.platter_model.specs.TrueLog.{strays}
+use Rattle.sector_store.specs.Tries.{FoundNothing}
+use Rattle.script_text.specs.declared.script.Script.{Script}
+use Rattle.block_machine.specs.declared.entry.Entry.{Entry}
+use Rattle.block_machine.specs.declared.entry.Entry.TheVariants.{Get}
+use Rattle.block_machine.specs.declared.turn.Turn.{Turn}
+use Rattle.block_machine.specs.Blocks.{is_dirty}
+use Rattle.block_machine.specs.History.{legal, task_legal, state_after, entries_of}
+use Rattle.block_machine.specs.Laws.{tally_of}
+use Rattle.block_machine.specs.State.{State}
+use Rattle.block_machine.specs.Steps.{begun, entries_after}
+use Rattle.drive_core.specs.Scene.{Scene, Beat, capacity, scene_at_start, scene_after}
+use Rattle.drive_core.specs.Evidence.{IsGotShown, window_now}
+use Rattle.script_runner.specs.Run.{IsGood, beats_of, drive_run}
+
+-- a fact holds of the turns of each good run, over a disk of so many blocks
+abbrev pub OfGoodRuns : (ℕ → List Turn → Type 0) → Type 0
+OfGoodRuns Fact = (order : Option ℕ) (script : Script) (turns : List Turn) (ops : List Op) (good : IsGood order script turns ops) → Fact (capacity_of good.size) turns
+
+-- a fact holds of those of each good run without strays: no damage was taken for another payload
+abbrev pub OfRunsWithoutStrays : (ℕ → List Turn → Type 0) → Type 0
+OfRunsWithoutStrays Fact = (order : Option ℕ) (script : Script) (turns : List Turn) (ops : List Op) (good : IsGood order script turns ops) → strays ops ≡ 0
+    → Fact (capacity_of good.size) turns
+
+-- turns are a legal history of an array of blocks
+abbrev pub AreLegal : ℕ → List Turn → Type 0
+AreLegal blocks turns = IsTrue (legal blocks turns)
+
+-- they are one as far as commands go
+abbrev pub AreTaskLegal : ℕ → List Turn → Type 0
+AreTaskLegal blocks turns = IsTrue (task_legal blocks turns)
+
+-- up to any of the turns they are a legal history
+abbrev pub BeginningsAreLegal : ℕ → List Turn → Type 0
+BeginningsAreLegal blocks turns = (first more : List Turn) → turns ≡ first ++ more → AreLegal blocks first
+
+-- no command is in after the last turn
+abbrev pub NoneIsLeft : ℕ → List Turn → Type 0
+NoneIsLeft blocks turns = (state_after blocks turns).set ≡ []
+
+-- the commands that came are those that ended with a reply, were aborted by a function, and were cut off
+abbrev pub AllThatCameAreGone : ℕ → List Turn → Type 0
+AllThatCameAreGone blocks turns = (tally_of (entries_of turns)).came
+    ≡ (tally_of (entries_of turns)).ended + (tally_of (entries_of turns)).aborted + (tally_of (entries_of turns)).cut
+
+-- what a drive has come to before a turn, and before an entry of it
+abbrev pub scene_before : Size → Script → List Beat → Scene
+scene_before size script before = fold scene_after (scene_at_start size script.primary.items) before
+
+abbrev pub state_before : Scene → Beat → List Entry → State
+state_before s t entries = entries_after (capacity s) t.label (begun s.hist t.label) entries
+
+-- a law: a value that a command gets of a block that isn't dirty is shown by the operations: the stages found it on the medium,
+-- or it is known since the power came on and may be given from the cache; and a block is read as lost only where each stage
+-- failed, or one found that it is lost
+abbrev pub GetsAreShown : Type 0
+GetsAreShown = (order : Option ℕ) (script : Script) (turns : List Turn) (ops : List Op) (good : IsGood order script turns ops) (before after : List Beat) (t : Beat) (earlier rest : List Entry) (c : ℕ) (b : Lba) (v : Value)
+    → beats_of (drive_run good.size script turns ops) ≡ before ++ t ∷ after → t.entries ≡ earlier ++ Get c b v ∷ rest
+    → let s = scene_before good.size script before in let h = state_before s t earlier in
+    is_dirty (h.blocks b.0) ≡ false → IsGotShown s t h c b v
+
+-- each stage of a retry count found nothing at a sector
+abbrev pub EachStageFailed : List Op → Psn → ℕ → Type 0
+EachStageFailed window p retry = (k : ℕ) (stage : Stage) → slice_get (stages_of retry) k ≡ Some stage → FoundNothing window p stage
+
+-- a law: in a good run without strays a block is read as lost only where each stage failed
+abbrev pub BadReadsAreShown : Type 0
+BadReadsAreShown = (order : Option ℕ) (script : Script) (turns : List Turn) (ops : List Op) (good : IsGood order script turns ops) → strays ops ≡ 0
+    → (before after : List Beat) (t : Beat) (earlier rest : List Entry) (c : ℕ) (b : Lba)
+    → beats_of (drive_run good.size script turns ops) ≡ before ++ t ∷ after → t.entries ≡ earlier ++ Get c b Lost ∷ rest
+    → let s = scene_before good.size script before in EachStageFailed (window_now s t c) (place_of s.map b) (s.settings c).retry

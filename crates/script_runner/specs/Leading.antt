@@ -1,0 +1,56 @@
+-- How the loop over a script's lines goes on: whatever carries the rest out from there completes the whole.
+use Rattle.std.specs.Prelude.{◌≡◌, ℕ, ◌+◌, ◌≤◌, List, [], ◌∷◌, ◌++◌, length, Option}
+use Rattle.geometry_map.specs.Size.{capacity_of}
+use Rattle.script_text.specs.declared.script.Line.{Line}
+use Rattle.drive_core.specs.Scene.{Beat}
+use Rattle.drive_core.specs.Run.{Run, scene_of}
+use Rattle.script_runner.specs.Arrivals.{Sends, lines_of}
+use Rattle.script_runner.specs.Phase.{ByOrder}
+use Rattle.script_runner.specs.CarriedOut.{CarryOut}
+use Rattle.script_runner.specs.Phasing.{AreServed}
+use Rattle.script_runner.specs.Measure.{turns_of_line, turns_of_lines, turns_to_send}
+use Rattle.script_runner.specs.Run.{beats_of}
+
+-- lines wait, and this is what they have sent
+abbrev pub Wait : List Line → Sends → Type 0
+Wait waiting sends = (i : ℕ) → sends i ≡ lines_of waiting i
+
+-- no command is in, and what is to be sent is served
+pub record IsAtRest (r : Run) (sends : Sends) : Type 0 where
+  pub idle : (scene_of r).hist.set ≡ []
+  pub served : AreServed sends
+
+-- a drive, and an order, go on from where some lines wait to where others do: what carries lines out from there carries these and them out
+-- from here
+pub record Leads (old : Run) (order : Option ℕ) (waiting lines : List Line) (new : Run) (next : Option ℕ) (after rest : List Line) : Type 0 where
+  pub own : List Beat
+  pub beats : beats_of new ≡ beats_of old ++ own
+  pub size : new.size ≡ old.size
+  pub primary : new.primary ≡ old.primary
+  pub completes : (turns : List Beat) → CarryOut ByOrder next (scene_of new) after rest turns
+      → CarryOut ByOrder order (scene_of old) waiting lines (own ++ turns)
+
+-- a line was taken: with any lines that wait it leads on
+pub record TakesLine (old : Run) (order : Option ℕ) (sends : Sends) (line : Line) (new : Run) (next : Option ℕ) (left : Sends) : Type 0 where
+  pub at_rest : IsAtRest new left
+  pub few : length new.turns + turns_to_send (capacity_of new.size) left
+      ≤ length old.turns + turns_to_send (capacity_of old.size) sends + turns_of_line (capacity_of old.size) line
+  pub leads : (waiting : List Line) → Wait waiting sends → (after : List Line) × Wait after left
+      × ((rest : List Line) → Leads old order waiting (line ∷ rest) new next after rest)
+
+-- the lines so far were taken
+pub record InScript (start : Run) (order : Option ℕ) (lines rest : List Line) (now : Run) (so_far : Option ℕ) (sends : Sends) : Type 0 where
+  pub waiting : List Line
+  pub waits : Wait waiting sends
+  pub at_rest : IsAtRest now sends
+  pub leads : Leads start order [] lines now so_far waiting rest
+  pub few : length now.turns + turns_to_send (capacity_of now.size) sends + turns_of_lines (capacity_of now.size) rest
+      ≤ length start.turns + turns_of_lines (capacity_of start.size) lines
+
+-- the lines were carried out
+pub record CarriesOut (old : Run) (order : Option ℕ) (lines : List Line) (new : Run) : Type 0 where
+  pub own : List Beat
+  pub beats : beats_of new ≡ beats_of old ++ own
+  pub size : new.size ≡ old.size
+  pub primary : new.primary ≡ old.primary
+  pub carried : CarryOut ByOrder order (scene_of old) [] lines own

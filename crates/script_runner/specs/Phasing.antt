@@ -1,0 +1,104 @@
+-- How the loop of a phase goes on.
+use Rattle.std.specs.Prelude.{◌≡◌, ◌≢◌, ℕ, ◌+◌, ◌<◌, ◌≤◌, length, true, false, Bool, IsTrue, List, [], ◌∷◌, ◌++◌, Option}
+use Rattle.std.specs.List.{list_all}
+use Rattle.platter_model.specs.declared.world.World.{World}
+use Rattle.block_machine.specs.declared.turn.Label.TheVariants as label
+use Rattle.drive_core.specs.declared.event.Arrival.{Arrival}
+use Rattle.drive_core.specs.declared.event.Event.{Event}
+use Rattle.drive_core.specs.declared.event.Event.TheVariants as event
+use Rattle.drive_core.specs.declared.answer.TurnAnswer.{TurnAnswer}
+use Rattle.drive_core.specs.declared.answer.TurnAnswer.TheVariants as answer
+use Rattle.drive_core.specs.declared.answer.Pick.{Pick}
+use Rattle.drive_core.specs.declared.answer.Pick.TheVariants as pick
+use Rattle.drive_core.specs.Scene.{Beat}
+use Rattle.drive_core.specs.Served.{IsServedArrival}
+use Rattle.drive_core.specs.Turning.{label_of_pick, initiator_of, AddsTurn}
+use Rattle.drive_core.specs.Run.{Run, IsGoodRun, scene_of}
+use Rattle.script_runner.specs.Each.{Each}
+use Rattle.script_runner.specs.Arrivals.{Sends, arrived_by, arrived_in}
+use Rattle.script_runner.specs.Order.{order_after}
+use Rattle.script_runner.specs.Phase.{is_of_phase, ByOrder}
+use Rattle.script_runner.specs.CarriedOut.{CarriesPhase}
+use Rattle.script_runner.specs.Measure.{turns_of_phase}
+use Rattle.script_runner.specs.Run.{beats_of}
+
+-- something that is to be sent by an initiator, and is served
+pub record IsToSend (i : ℕ) (a : Arrival) : Type 0 where
+  pub sender : initiator_of a ≡ i
+  pub served : IsServedArrival a
+
+abbrev pub AreServed : Sends → Type 0
+AreServed sends = (i : ℕ) → Each (IsToSend i) (sends i)
+
+-- what a pick needs is there: something to send, or nothing for work
+abbrev pub IsAtHand : Sends → Pick → Type 0
+IsAtHand sends (pick.Arrive i) = sends i ≢ []
+IsAtHand sends (pick.Work c) = Unit {0}
+IsAtHand sends other = ⊥
+
+-- the event of a pick: an arrival is taken out of what is to be sent
+abbrev pub Fetches : Sends → Pick → Event → Sends → Type 0
+Fetches old (pick.Arrive i) (event.Arrive a) new = (old i ≡ a ∷ new i) × IsToSend i a × ((j : ℕ) → j ≢ i → new j ≡ old j)
+Fetches old (pick.Work c) (event.Work d) new = (d ≡ c) × (new ≡ old)
+Fetches old p e new = ⊥
+
+-- a drive of the same measures has one turn more
+pub record GoesOn (old new : Run) (t : Beat) : Type 0 where
+  pub beats : beats_of new ≡ beats_of old ++ t ∷ []
+  pub size : new.size ≡ old.size
+  pub primary : new.primary ≡ old.primary
+
+-- the turn of an event came, and the drive's run was good before it and is after it
+pub record MakesTurn (old : Run) (e : Event) (new : Run) : Type 0 where
+  pub given : TurnAnswer
+  pub adds : AddsTurn old e given new
+  pub before : IsGoodRun old
+  pub after : IsGoodRun new
+
+-- the turn of a pick came: what arrived in it isn't to be sent any more
+pub record TakesTurn (old : Run) (sends : Sends) (p : Pick) (new : Run) (left : Sends) : Type 0 where
+  pub turn : Beat
+  pub goes : GoesOn old new turn
+  pub label : label_of_pick p ≡ turn.label
+  pub kind : is_of_phase turn.label ≡ true
+  pub arrivals : (i : ℕ) → sends i ≡ arrived_by i turn.entries ++ left i
+  pub served : AreServed left
+  pub counted : length new.turns ≡ length old.turns + 1
+  pub fewer : turns_of_phase (scene_of new) left < turns_of_phase (scene_of old) sends
+
+-- a phase is in hand, and an order
+pub record InPhase (old : Run) (order : Option ℕ) (sends : Sends) (now : Run) (so_far : Option ℕ) (left : Sends) : Type 0 where
+  pub own : List Beat
+  pub beats : beats_of now ≡ beats_of old ++ own
+  pub size : now.size ≡ old.size
+  pub primary : now.primary ≡ old.primary
+  pub kinds : IsTrue (list_all (λ t. is_of_phase t.label) own)
+  pub arrivals : (i : ℕ) → sends i ≡ arrived_in i own ++ left i
+  pub by_rule : ByOrder order (scene_of old) sends own
+  pub drawn_once_a_turn : so_far ≡ order_after order own
+  pub served : AreServed left
+  pub few : length now.turns + turns_of_phase (scene_of now) left ≤ length old.turns + turns_of_phase (scene_of old) sends
+
+-- a phase was carried out
+pub record Carried (old : Run) (order : Option ℕ) (sends : Sends) (new : Run) (next : Option ℕ) : Type 0 where
+  pub own : List Beat
+  pub beats : beats_of new ≡ beats_of old ++ own
+  pub size : new.size ≡ old.size
+  pub primary : new.primary ≡ old.primary
+  pub phase : CarriesPhase ByOrder order (scene_of old) sends own
+  pub drawn_once_a_turn : next ≡ order_after order own
+  pub few : length new.turns ≤ length old.turns + turns_of_phase (scene_of old) sends
+  pub idle : (scene_of new).hist.set ≡ []
+
+-- something happened to the drive from outside, and nothing else changed
+pub record Happens (old : Run) (w : World) (new : Run) : Type 0 where
+  pub turn : Beat
+  pub goes : GoesOn old new turn
+  pub label : turn.label ≡ label.World w
+  pub idle : (scene_of old).hist.set ≡ [] → (scene_of new).hist.set ≡ []
+  pub counted : length new.turns ≡ length old.turns + 1
+
+-- a turn was made
+abbrev pub is_done : TurnAnswer → Bool
+is_done (answer.Done number ended scanned) = true
+is_done other = false

@@ -1,0 +1,134 @@
+//! A script is carried out: its lines, one after another.
+ghost use Rattle.std.specs.Prelude.{◌≡◌, ◌+◌, ◌<◌, [], length, All, OnOk, IfOk};
+ghost use Rattle.geometry_map.specs.Size.{capacity_of};
+ghost use Rattle.drive_core.specs.Run.{scene_of};
+ghost use Rattle.drive_core.specs.Able.{turns_at_most};
+ghost use Rattle.drive_core.specs.Served.{IsServed};
+ghost use Rattle.drive_core.specs.declared.event.Event.TheVariants as event;
+ghost use Rattle.script_runner.specs.Arrivals.{sends_of};
+ghost use Rattle.script_runner.specs.Script.{HasMeasures, IsServedLine, CanBeCarriedOut, IsFresh};
+ghost use Rattle.script_runner.specs.Measure.{turns_of_line, turns_of_lines, turns_to_send};
+ghost use Rattle.script_runner.specs.Leading.{IsAtRest, TakesLine, CarriesOut};
+ghost use Rattle.script_runner.specs.Phasing.{Happens};
+ghost use Rattle.script_runner.specs.Run.{IsGood};
+
+use crate::order::Order;
+use crate::phase::{carry_phase, make_turn};
+use crate::queues::Queues;
+use disk_base::NoMemory;
+use drive_core::{Arrival, Drive, Event};
+use geometry_map::Size;
+use platter_model::World;
+use report_text::Run;
+use script_text::{Line, Script};
+use sector_store::StoreFault;
+use std::alloc::Global;
+
+/// A run of a script: a drive from its factory on, which carries out the lines.
+pub(crate) fn run_script(alloc: Global, script: Script, order: Order) -> Result<Run, NoMemory>
+    requires { (size : Size) → HasMeasures script.size size → CanBeCarriedOut size script }
+    ensures script { IfOk result (λ run. run.script ≡ script) }
+    ensures good { IfOk result (λ run. IsGood order.x run.script run.turns run.ops) }
+{
+    let mut drive = made(alloc, &script)?;
+    carry_out(alloc, &mut drive, script.lines.as_slice(), order)?;
+    drive.is_good();
+    let (turns, ops) = drive.into_parts();
+    Ok(Run { script, turns, ops })
+}
+
+// The drive of a script.
+fn made(alloc: Global, script: &Script) -> Result<Drive, NoMemory>
+    requires { (size : Size) → HasMeasures script.now.size size → CanBeCarriedOut size script.now }
+    ensures { IfOk result (IsFresh script.now) }
+{
+    let size = size_of(script.size);
+    match Drive::factory(alloc, size, script.primary.as_slice()) {
+        Ok(drive) => Ok(drive),
+        Err(StoreFault::NoMemory) => Err(NoMemory),
+        Err(StoreFault::Primary) => unreachable!(),
+    }
+}
+
+// The measures of the drive.
+fn size_of(given: Option<Size>) -> Size
+    ensures { HasMeasures given result }
+{
+    match given {
+        Some(size) => size,
+        None => Size {
+            cylinders: 16,
+            heads: 4,
+            sectors: 16,
+            reserved: 96,
+        },
+    }
+}
+
+// What waits when a line ends a phase, and at the end, is carried out.
+fn carry_out(alloc: Global, drive: &mut Drive, lines: &[Line], order: Order) -> Result<(), NoMemory>
+    requires served { All (IsServedLine drive.old.size) lines.now }
+    requires fresh { (scene_of drive.old).hist.set ≡ [] }
+    requires room { length drive.old.turns + turns_of_lines (capacity_of drive.old.size) lines.now < turns_at_most }
+    ensures { OnOk result (CarriesOut drive.old order.x lines.now drive.new) }
+{
+    let mut queues = Queues::new(alloc)?;
+    let mut so_far = order;
+    for line in lines {
+        take_line(alloc, drive, &mut queues, &mut so_far, line)?;
+    }
+    carry_phase(drive, &mut queues, &mut so_far)
+}
+
+fn take_line(
+    alloc: Global,
+    drive: &mut Drive,
+    queues: &mut Queues,
+    order: &mut Order,
+    line: &Line,
+) -> Result<(), NoMemory>
+    requires served { IsServedLine drive.old.size line.now }
+    requires at_rest { IsAtRest drive.old (sends_of queues.old) }
+    requires room { length drive.old.turns + turns_to_send (capacity_of drive.old.size) (sends_of queues.old)
+        + turns_of_line (capacity_of drive.old.size) line.now < turns_at_most }
+    ensures { OnOk result
+        (TakesLine drive.old order.old.x (sends_of queues.old) line.now drive.new order.new.x (sends_of queues.new)) }
+{
+    match line {
+        Line::Command {
+            initiator,
+            tag,
+            attribute,
+            cdb,
+            sent,
+        } => {
+            let arrival = Arrival::Command {
+                initiator: *initiator,
+                tag: *tag,
+                attribute: *attribute,
+                cdb: cdb.copy(),
+                sent: sent.copy(alloc)?,
+            };
+            queues.put(*initiator, arrival)
+        }
+        Line::Function { initiator, what } => {
+            let arrival = Arrival::Function {
+                initiator: *initiator,
+                what: *what,
+            };
+            queues.put(*initiator, arrival)
+        }
+        Line::Go => carry_phase(drive, queues, order),
+        Line::World { world } => happen(drive, *world),
+        Line::Scan { .. } | Line::Destage { .. } => unreachable!(),
+    }
+}
+
+// Something happens to the drive from outside.
+fn happen(drive: &mut Drive, world: World) -> Result<(), NoMemory>
+    requires served { IsServed drive.old.size (event.World world) }
+    requires room { length drive.old.turns < turns_at_most }
+    ensures { OnOk result (Happens drive.old world drive.new) }
+{
+    make_turn(drive, Event::World(world))
+}
