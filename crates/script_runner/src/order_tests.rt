@@ -57,7 +57,7 @@ fn run(alloc: Global, order: &str, script: &[u8]) -> Result<Run, Fail> {
 // The value that was put last is that of the third phase.
 fn is_put_last(block: usize, state: &BlockState) -> bool {
     match state.newer.as_slice().last() {
-        Some(Value::Data(data)) => *data == [(128 + 2 * block % 64) as u8; 512],
+        Some(Value::Data(data)) => *data == [(128 + 2 * (block % 32)) as u8; 512],
         _ => false,
     }
 }
