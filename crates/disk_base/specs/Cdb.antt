@@ -1,5 +1,5 @@
 -- Command descriptor blocks (SPC-4, 4.2).
-use Rattle.std.specs.Prelude.{ℕ, ◌/◌, Bool, false, if◌then◌else◌, ◌==◌, ◌&&◌, ◌||◌, IsTrue, List, [], ◌∷◌, length}
+use Rattle.std.specs.Prelude.{ℕ, ◌/◌, Bool, false, if◌then◌else◌, ◌==◌, ◌||◌, IsTrue, List, [], ◌∷◌, length}
 
 -- whether a command block of this group of operation codes may have this length (SPC-4, 4.2.5.1)
 abbrev pub allows_length : ℕ → ℕ → Bool

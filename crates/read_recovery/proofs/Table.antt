@@ -1,6 +1,6 @@
 -- The table of stages, by place.
-use Rattle.std.proofs.Common.{◌≡◌, ℕ, zero, suc, ◌+◌, ◌-◌, ◌<◌, ◌≤◌, Bool, true, false, List, [], ◌∷◌, ◌++◌, length, take, get_or, refl, sym, ap, ◌∙◌, arith, length-append, lit<}
-use Rattle.std.specs.Prelude.{pos, negsuc, Option, Some, None, IsSome, IsTrue, slice_get, ◌⊎◌, ◌↔◌}
+use Rattle.std.proofs.Common.{◌≡◌, ℕ, zero, suc, ◌+◌, ◌<◌, ◌≤◌, Bool, true, false, List, [], ◌∷◌, ◌++◌, length, take, get_or, refl, sym, ap, ◌∙◌, arith, length-append}
+use Rattle.std.specs.Prelude.{pos, negsuc, Option, Some, None, IsSome, IsTrue, slice_get, ◌↔◌}
 use mathlib.Core.Logic.{inl, inr}
 use Rattle.std.proofs.Math.Nat.{eq-or-lt_of_le}
 use Rattle.std.proofs.Math.Seq.{get_or-append_seam}
@@ -8,7 +8,7 @@ use Rattle.std.proofs.lemmas.List.{get_or_append_left, get_or-append-add, take_a
 use Rattle.std.proofs.lemmas.Option.{slice_get-get_or, slice_get_within, slice_get_past, get_or_from_slice_get}
 use Rattle.disk_base.specs.declared.stage.How.TheVariants.{Light, Full, Erased}
 use Rattle.disk_base.specs.declared.stage.Stage.{Stage}
-use Rattle.read_recovery.specs.Stages.{stage, plain_stages, stages_of, is_heavy, Progress, next_stage}
+use Rattle.read_recovery.specs.Stages.{stage, plain_stages, stages_of, is_heavy, next_stage}
 
 -- what is read past the table's end
 abbrev nothing : Stage

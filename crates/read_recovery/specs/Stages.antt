@@ -1,5 +1,5 @@
 -- The stages by which a sector is read, and how far a read has come.
-use Rattle.std.specs.Prelude.{ℕ, zero, suc, ◌+◌, ◌==◌, Bool, true, false, pos, negsuc, ℤ, List, [], ◌∷◌, ◌++◌, Option, Some, None, slice_get, if◌then◌else◌}
+use Rattle.std.specs.Prelude.{ℕ, zero, suc, ◌+◌, Bool, true, false, pos, negsuc, ℤ, List, [], ◌∷◌, ◌++◌, Option, None, slice_get, if◌then◌else◌}
 use Rattle.disk_base.specs.declared.stage.How.{How}
 use Rattle.disk_base.specs.declared.stage.How.TheVariants.{Light, Full, Erased}
 use Rattle.disk_base.specs.declared.stage.Stage.{Stage}

@@ -1,5 +1,5 @@
 -- A level and the one two places before it give the clean sample.
-use Rattle.std.proofs.Common.{◌≡◌, ◌≢◌, ℕ, suc, ◌+◌, ◌<◌, length, set, get_or, pos, FitsSigned, w8, refl, ap, ◌∙◌, below_more, get_or-set_same, get_or-set_other, arith, rules}
+use Rattle.std.proofs.Common.{◌≡◌, ◌≢◌, ℕ, suc, ◌+◌, ◌<◌, length, set, get_or, pos, FitsSigned, w8, ap, ◌∙◌, below_more, get_or-set_same, get_or-set_other, arith, rules}
 use Rattle.std.proofs.Math.Numerals.{add-one}
 use Rattle.std.proofs.lemmas.Int.{to_z-of_z}
 use Rattle.std.proofs.lemmas.List.{get_or_default}

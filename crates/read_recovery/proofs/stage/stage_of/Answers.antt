@@ -1,5 +1,5 @@
 -- each arm is a row of the table
-use Rattle.std.proofs.Common.{◌≡◌, ◌+◌, ◌∙◌, sym, ap, arith}
+use Rattle.std.proofs.Common.{◌∙◌, sym, ap, arith}
 use Rattle.std.specs.Prelude.{Some}
 use Rattle.read_recovery.proofs.Table.{plain_stage, ahead_stage, behind_stage, full_stage, erased_stage}
 use Rattle.read_recovery.proofs.stage.stage_of.Goals as goal

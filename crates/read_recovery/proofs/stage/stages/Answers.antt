@@ -1,5 +1,5 @@
 -- one stage more, up to all
-use Rattle.std.proofs.Common.{◌≡◌, List, [], ◌∷◌, ◌++◌, ◌∙◌, sym, ap, arith}
+use Rattle.std.proofs.Common.{List, [], ◌∷◌, ◌++◌, ◌∙◌, sym, ap}
 use Rattle.disk_base.specs.declared.stage.Stage.{Stage}
 use Rattle.read_recovery.proofs.Table.{take-one, take-whole}
 use Rattle.read_recovery.proofs.stage.stages.Goals as goal

@@ -1,4 +1,4 @@
-use Rattle.std.proofs.Common.{ℕ, List, ◌∙◌, arith, slice_index, refl, ap}
+use Rattle.std.proofs.Common.{ℕ, List, arith, slice_index, ap}
 use Rattle.hex.proofs.Pairs.{encode_step, encode_done}
 use Rattle.hex.specs.Hex.{encode_with, upper_digits}
 use Rattle.text_words.proofs.digits.encode.Goals as goal

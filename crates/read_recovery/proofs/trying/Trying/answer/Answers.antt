@@ -1,5 +1,5 @@
 -- the next stage is one of the table's, and no stage found before
-use Rattle.std.proofs.Common.{◌≡◌, ◌<◌, ◌+◌, false, arith}
+use Rattle.std.proofs.Common.{◌≡◌, false, arith}
 use Rattle.read_recovery.proofs.Table.{next_is_left}
 use Rattle.read_recovery.proofs.trying.Trying.answer.Goals as goal
 

@@ -1,5 +1,5 @@
 -- all stages failed
-use Rattle.std.proofs.Common.{◌≡◌, ◌∙◌, sym, ap, arith}
+use Rattle.std.proofs.Common.{◌∙◌, sym, ap, arith}
 use Rattle.read_recovery.specs.Stages.{next_stage}
 use Rattle.read_recovery.proofs.Table.{none_is_left}
 use Rattle.read_recovery.proofs.trying.Trying.next.Goals as goal
