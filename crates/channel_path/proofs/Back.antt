@@ -1,26 +1,25 @@
 -- What a payload was written as reads as that payload.
-use Rattle.std.proofs.Common.{◌≡◌, ℕ, zero, suc, ◌+◌, ◌-◌, ◌*◌, ◌/◌, ◌%◌, ◌^◌, ◌<◌, ◌≤◌, Bool, true, false, not, ◌&&◌, nat_eq, List, [], ◌∷◌, ◌++◌, length, take, get_or, arith, sym, ap, ◌∙◌, refl, eq-eqb, length-append}
-use Rattle.std.specs.Prelude.{map, replicate, ℤ}
-use Rattle.std.specs.List.{All, range_with_len}
+use Rattle.std.proofs.Common.{◌≡◌, ℕ, zero, suc, ◌+◌, ◌*◌, ◌/◌, ◌%◌, ◌<◌, Bool, true, false, not, ◌&&◌, List, [], ◌∷◌, length, take, get_or, arith, sym, ap, ◌∙◌, refl, eq-eqb}
+use Rattle.std.specs.Prelude.{map, ℤ}
+use Rattle.std.specs.List.{All}
 use Rattle.std.proofs.lemmas.Bool.{and_left}
 use Rattle.std.proofs.lemmas.List.{ext_get_or, length-map, get_or-map}
 use Rattle.std.proofs.lemmas.List.FromFn.{length-map-range_with_len, get_or-map-range_with_len}
-use Rattle.disk_base.specs.declared.address.Psn.{Psn}
 use Rattle.disk_base.specs.declared.payload.Payload.{Payload}
 use Rattle.disk_base.specs.declared.stage.How.{How}
 use Rattle.disk_base.specs.declared.stage.How.TheVariants.{Light, Full, Erased}
 use Rattle.disk_base.specs.Payload.{layout, IsPayload}
-use Rattle.rs_sector.specs.Code.{IsCodeword, AllEncode, count_below, differs_at, differing}
-use Rattle.rs_sector.specs.Decoding.{IsNear, IsNearErased, is_marked, marked, differing_outside}
+use Rattle.rs_sector.specs.Code.{IsCodeword, AllEncode, count_below, differs_at}
+use Rattle.rs_sector.specs.Decoding.{is_marked, marked, differing_outside}
 use Rattle.rs_sector.specs.Sector.{word_of, words_of, bytes_of}
 use Rattle.rs_sector.specs.Laws.{HaveOneEncoding, JoinsAgain, DealsAgain}
 use Rattle.rll_code.specs.Code.{IsCode}
-use Rattle.rll_code.specs.Reading.{bytes_read, flags_read}
+use Rattle.rll_code.specs.Reading.{flags_read}
 use Rattle.rll_code.specs.Laws.{OnesAreFollowed}
 use Rattle.rll_code.specs.Laws as code
-use Rattle.prml_viterbi.specs.Levels.{AreSpaced, IsAllowed, SpacedGiveAllowed, InvertEachOther, level_word, channel_bits, clean_samples}
-use Rattle.prml_viterbi.specs.Detected.{IsDetected, CleanSamplesTell}
-use Rattle.channel_path.specs.Sector.{IsEncoded, AreHeard, IsInReach, AreInReach, IsOf, ReadsAs, flags_of}
+use Rattle.prml_viterbi.specs.Levels.{AreSpaced, SpacedGiveAllowed, InvertEachOther, level_word, clean_samples}
+use Rattle.prml_viterbi.specs.Detected.{CleanSamplesTell}
+use Rattle.channel_path.specs.Sector.{IsInReach, flags_of}
 use Rattle.channel_path.specs.Laws.{HasOneEncoding, ReadsBack}
 use Rattle.channel_path.proofs.Flags.{none_flagged}
 use Rattle.channel_path.proofs.Reach.{dealt_word}

@@ -1,6 +1,6 @@
 -- The flags of one word.
-use Rattle.std.proofs.Common.{◌≡◌, ℕ, zero, suc, ◌+◌, ◌-◌, ◌*◌, ◌<◌, ◌≤◌, Bool, false, List, length, get_or, arith, sym, ◌∙◌, refl}
-use Rattle.std.specs.Prelude.{map, replicate, ◌⊎◌}
+use Rattle.std.proofs.Common.{◌≡◌, ℕ, zero, suc, ◌+◌, ◌-◌, ◌*◌, ◌<◌, Bool, false, List, length, get_or, arith, sym, ◌∙◌, refl}
+use Rattle.std.specs.Prelude.{map, replicate}
 use mathlib.Core.Logic.{inl, inr}
 use Rattle.std.proofs.Math.Nat.{eq-zero-or-pos}
 use Rattle.std.specs.List.{range_with_len}

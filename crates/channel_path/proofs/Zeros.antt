@@ -1,7 +1,7 @@
 -- Samples that are all zero.
-use Rattle.std.proofs.Common.{◌≡◌, ℕ, zero, suc, ◌+◌, ◌-◌, ◌*◌, ◌/◌, ◌%◌, ◌^◌, ◌<◌, ◌≤◌, Bool, true, false, not, nat_eq, ◌&&◌, List, [], ◌∷◌, ◌++◌, length, take, get_or, arith, sym, ap, ◌∙◌, refl, subst, eq-eqb, lit<, lit≤}
-use Rattle.std.specs.Prelude.{map, replicate, ℤ, pos, bit_xor, Option, Some, None}
-use Rattle.std.specs.List.{range_with_len, starts_with}
+use Rattle.std.proofs.Common.{◌≡◌, ℕ, zero, suc, ◌+◌, ◌-◌, ◌*◌, ◌/◌, ◌%◌, ◌^◌, ◌<◌, ◌≤◌, Bool, true, false, List, [], ◌∷◌, length, take, get_or, arith, sym, ap, ◌∙◌, refl, subst, lit<, lit≤}
+use Rattle.std.specs.Prelude.{map, replicate, ℤ, pos, None}
+use Rattle.std.specs.List.{range_with_len}
 use Rattle.std.proofs.lemmas.List.{ext_get_or, length-replicate, get_or-replicate, get_or-map}
 use Rattle.std.proofs.lemmas.List.FromFn.{length-map-range_with_len, get_or-map-range_with_len}
 use Rattle.rs_sector.specs.Field.{polynomial_product, polynomial_remainder, field_product, power, sum_below}
@@ -20,10 +20,9 @@ use Rattle.prml_viterbi.specs.Detected.{IsDetected, IsUnique, CleanSamplesTell}
 use Rattle.channel_path.specs.Sector.{AreHeard, IsInReach, flags_of}
 use Rattle.channel_path.specs.Laws.{ZerosReadAsNothing}
 use Rattle.channel_path.proofs.Back.{count-none, same_nowhere, gathered_at}
-use Rattle.rll_code.specs.Bits.{same, bits, octets}
-use Rattle.rll_code.specs.Code.{Row, rows, right_side}
-use Rattle.rll_code.specs.Reading.{BitRead, unread, row_at, front_bits, front_length, reading_after, reading, byte_of, is_flagged, bytes_read, flags_read}
-use Rattle.prml_viterbi.specs.Levels.{level_word, levels_after, level_at, clean_at, clean_samples, AreSpaced}
+use Rattle.rll_code.specs.Bits.{octets}
+use Rattle.rll_code.specs.Reading.{unread, row_at, reading_after, reading, byte_of, is_flagged, bytes_read, flags_read}
+use Rattle.prml_viterbi.specs.Levels.{level_word, level_at, clean_at, clean_samples, AreSpaced}
 
 -- the levels of a word without a 1
 high_levels : (n : ℕ) → level_word (replicate n false) ≡ replicate n (pos 1)

@@ -52,6 +52,8 @@ impl Path {
 }
 
 /// The payload that samples of a sector read as; none where they read as none of it.
+// Inlined into a large function, its loops would lack registers.
+#[inline(never)]
 pub fn read_samples(path: &mut Path, p: Psn, samples: &[i8; SAMPLES], how: How) -> Option<Payload>
     ensures some { IfSome result (ReadsAs p samples.now how) }
     ensures none { (payload : Payload) → ReadsAs p samples.now how payload → result ≡ Some payload }

@@ -9,6 +9,8 @@ use rs_sector::{deal, encode_sector, gather};
 pub const SAMPLES: usize = 9478;
 
 /// Writes the samples that a payload is written as.
+// Inlined into a large function, its loops would lack registers.
+#[inline(never)]
 pub fn write_samples(payload: &Payload, out: &mut [i8; SAMPLES])
     ensures { IsEncoded payload.now out.new }
 {

@@ -1,5 +1,5 @@
 -- word i of the four is the one that its bytes are dealt to
-use Rattle.std.proofs.Common.{◌≡◌, List, [], get_or}
+use Rattle.std.proofs.Common.{◌≡◌, [], get_or}
 use Rattle.rs_sector.specs.Sector.{word_of}
 use Rattle.channel_path.proofs.Reach.{dealt_word}
 use Rattle.channel_path.proofs.reading.corrected_word.Goals as goal
