@@ -161,3 +161,11 @@ give_is p ops attempt sectors item order samples below is are all applied =
       written = kept.unflawed;
       flawed = applied ∙ ap (λ fs. under attempt fs item.unflawed) (all item.written ∙ (ap (λ w. standing_in p w ops (length ops)) kept.written_at ∙ sym at_places));
     }
+
+-- a sector to which no flaw ever came gives what is kept for it
+pub flawless_is : (p : Psn) (ops : List Op) (attempt : Attempt) (sectors : List Sector) (item : Sector) → p.0 < length sectors → item ≡ get_or sectors p.0 item
+    → AreSectors ops sectors → item.flaw ≡ None → IsGiven ops p attempt item.unflawed
+flawless_is p ops attempt sectors item below is are none =
+    let kept : IsSector ops p item = are p item (slice_get_read sectors (length sectors) p.0 item refl below is) in
+    let lined : IsLinedUp p ops None [] = lined_start p ops None [] (sym none ∙ kept.flaw_at) refl in
+    give_is p ops attempt sectors item [] item.unflawed below is are lined.all refl

@@ -1,5 +1,5 @@
 -- What holds of the samples that sectors give.
-use Rattle.std.specs.Prelude.{◌≡◌, ℕ, Bool, true, false, not, ◌||◌, ℤ, List, Option, None}
+use Rattle.std.specs.Prelude.{◌≡◌, Bool, true, not, ◌||◌, false, ℤ, List, None}
 use Rattle.std.specs.List.{list_all}
 use Rattle.disk_base.specs.declared.address.Psn.{Psn}
 use Rattle.disk_base.specs.declared.payload.Payload.{Payload}
@@ -8,14 +8,9 @@ use Rattle.channel_path.specs.Sector.{ReadsAs}
 use Rattle.platter_model.specs.declared.damage.Attempt.{Attempt}
 use Rattle.platter_model.specs.declared.damage.Effect.{Effect}
 use Rattle.platter_model.specs.declared.damage.Effect.TheVariants.{Drop, Add}
-use Rattle.platter_model.specs.declared.answer.FetchAnswer.TheVariants.{Taken}
 use Rattle.platter_model.specs.declared.op.Op.{Op}
-use Rattle.platter_model.specs.declared.op.Op.TheVariants.{Tried}
-use Rattle.disk_base.specs.declared.stage.Stage.{Stage}
 use Rattle.platter_model.specs.Sector.{Flaw, harm, scar, meant, flaws}
-use Rattle.platter_model.specs.Given.{applies, IsGiven, IsFound}
-use Rattle.platter_model.specs.TrueLog.{attempt_of, is_off, IsTrueLog, MayFollow}
-use Rattle.platter_model.specs.State.{State, fetch_answer_of, after_fetch}
+use Rattle.platter_model.specs.Given.{applies, IsGiven}
 
 abbrev pub is_drop : Effect → Bool
 is_drop Drop = true
@@ -34,9 +29,3 @@ NothingIsRead = (ops : List Op) (p : Psn) (attempt : Attempt) (samples : List �
 -- after the same operations a sector gives the same samples at the same attempt
 abbrev pub GivesOneThing : Type 0
 GivesOneThing = (ops : List Op) (p : Psn) (attempt : Attempt) (a b : List ℤ) → IsGiven ops p attempt a → IsGiven ops p attempt b → a ≡ b
-
--- what is read from the samples of a fetch that was answered may be noted after it
-abbrev pub MayBeNoted : Type 0
-MayBeNoted = (s : State) (p : Psn) (stage : Stage) (samples : List ℤ) (found : Option Payload) (at : ℕ) → IsTrueLog s.ops → Taken at ≡ fetch_answer_of s
-    → (is_off s.ops ≡ false → IsGiven s.ops p (attempt_of stage) samples) → IsFound p samples stage.how found
-    → MayFollow (after_fetch s p (attempt_of stage)).ops (Tried at p stage found)

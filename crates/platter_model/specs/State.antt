@@ -2,17 +2,15 @@
 use Rattle.std.specs.Prelude.{ℕ, ◌-◌, ◌≤◌, ◌==◌, List, [], ◌∷◌, ◌++◌, length, map, max, Option, Some, None, if◌then◌else◌}
 use Rattle.disk_base.specs.declared.address.Psn.{Psn}
 use Rattle.disk_base.specs.declared.payload.Payload.{Payload}
+use Rattle.disk_base.specs.declared.stage.Stage.{Stage}
 use Rattle.platter_model.specs.declared.answer.WriteAnswer.{WriteAnswer}
 use Rattle.platter_model.specs.declared.answer.WriteAnswer.TheVariants.{Written, Fault, Off}
-use Rattle.platter_model.specs.declared.answer.FetchAnswer.{FetchAnswer}
-use Rattle.platter_model.specs.declared.answer.FetchAnswer.TheVariants as fetch_answer
 use Rattle.platter_model.specs.declared.damage.Arming.{Arming}
-use Rattle.platter_model.specs.declared.damage.Attempt.{Attempt}
 use Rattle.platter_model.specs.declared.damage.Tear.{Tear}
 use Rattle.platter_model.specs.declared.op.Op.{Op}
-use Rattle.platter_model.specs.declared.op.Op.TheVariants.{Wrote, Torn, WriteFailed, Fetched, Cut, Power}
+use Rattle.platter_model.specs.declared.op.Op.TheVariants.{Wrote, Torn, WriteFailed, Fetched, Tried, Cut, Power}
 use Rattle.platter_model.specs.Sector.{is_faulty}
-use Rattle.platter_model.specs.TrueLog.{is_off}
+use Rattle.platter_model.specs.TrueLog.{attempt_of, is_off}
 
 -- how many sectors there are, the operations, the cut that is armed, and for how many more operations there is room
 pub record State : Type 0 where
@@ -66,12 +64,9 @@ after_write s p payload =
     if is_faulty p s.ops then with_op s (WriteFailed p) else
     after_good_write s.armed s payload
 
--- how a fetch is answered: by the number of its operation, while the power is on
-abbrev pub fetch_answer_of : State → FetchAnswer
-fetch_answer_of s = if is_off s.ops then fetch_answer.Off else fetch_answer.Taken (length s.ops)
-
-abbrev pub after_fetch : State → Psn → Attempt → State
-after_fetch s p attempt = if is_off s.ops then s else with_op s (Fetched p attempt)
+-- a platter after a try of a sector: a fetch by the stage's attempt, and what the stage found in its samples
+abbrev pub tried : State → Psn → Stage → Option Payload → State
+tried s p stage found = with_op (with_op s (Fetched p (attempt_of stage))) (Tried (length s.ops) p stage found)
 
 -- the power goes off, and nothing is armed any more; where it is off already, nothing changes
 abbrev pub after_cut : State → State

@@ -27,7 +27,7 @@ pub(crate) fn give(
     ensures capacity { vec_capacity order.new ≡ vec_capacity order.old }
 {
     let sector = &kept.sectors[p.0 as usize];
-    *out = sector.unflawed;
+    out.copy_from_slice(&sector.unflawed);
     line_up(kept, p, order);
     apply(kept, p, sector.written, attempt, order, out);
 }

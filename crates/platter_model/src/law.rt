@@ -1,5 +1,5 @@
 //! Laws of the samples that sectors give, each the contract of a function that only calls the laws that it rests on.
-ghost use Rattle.platter_model.specs.Laws.{GivesOneThing, MayBeNoted, NothingIsRead};
+ghost use Rattle.platter_model.specs.Laws.{GivesOneThing, NothingIsRead};
 
 use channel_path::{payloads_have_one_encoding, zero_samples_read_as_nothing};
 
@@ -17,8 +17,3 @@ pub fn sectors_give_one_thing()
 {
     payloads_have_one_encoding();
 }
-
-/// What is read from the samples of a fetch, by the stage whose attempt it was, may be noted right after it.
-pub fn what_is_read_may_be_noted()
-    ensures { MayBeNoted }
-{}

@@ -13,13 +13,12 @@ mod platter;
 mod sector;
 #[cfg(test)]
 mod tests;
+mod trying;
 mod world;
 
-pub use answer::{FetchAnswer, WriteAnswer};
+pub use answer::WriteAnswer;
 pub use damage::{Arming, Attempt, Damage, Effect, Lasting, Left, Tear};
-pub use law::{
-    nothing_is_read_where_nothing_is_meant, sectors_give_one_thing, what_is_read_may_be_noted,
-};
+pub use law::{nothing_is_read_where_nothing_is_meant, sectors_give_one_thing};
 pub use op::{Op, Ops};
 pub use platter::Platter;
 pub use world::World;

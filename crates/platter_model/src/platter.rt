@@ -1,16 +1,16 @@
 //! The platter and its calls.
-ghost use Rattle.std.specs.Prelude.{if◌then◌else◌, ◌≡◌, ◌≢◌, ◌+◌, ◌≤◌, ◌<◌, length, All, IfOk, OnOk, OnErr, Some, None, false, true, option_copied, []};
+ghost use Rattle.std.specs.Prelude.{if◌then◌else◌, ◌≡◌, ◌≢◌, ◌+◌, ◌≤◌, ◌<◌, length, All, IfOk, OnOk, OnErr, MatchOption, Some, None, false, true, option_copied, []};
 ghost use Rattle.platter_model.specs.Sector as sector;
-ghost use Rattle.platter_model.specs.Given.{IsGiven};
 ghost use Rattle.platter_model.specs.Places.{IsWithin};
 ghost use Rattle.platter_model.specs.TrueLog.{IsTrueLog, MayFollow, failing, is_stray, supply, supply_after};
 ghost use Rattle.platter_model.specs.TrueLog as log;
-ghost use Rattle.platter_model.specs.State.{IsReady, with_op, with_room, made, write_answer, after_write, fetch_answer_of, after_fetch, after_cut, after_power, good_answer, after_good_write, torn};
+ghost use Rattle.platter_model.specs.State.{IsReady, with_op, with_room, made, write_answer, after_write, tried, after_cut, after_power, good_answer, after_good_write, torn};
 
 use crate::found::{is_other, meant_at};
 use crate::kept::{Kept, blank_sectors};
-use crate::{Arming, Attempt, Damage, FetchAnswer, Op, Ops, Tear, WriteAnswer, flaws};
-use channel_path::SAMPLES;
+use crate::trying::find;
+use crate::{Arming, Attempt, Damage, Op, Ops, Tear, WriteAnswer};
+use channel_path::{Path, SAMPLES};
 use disk_base::{NoMemory, Payload, Psn, Stage};
 use std::alloc::Global;
 use std::marker::Model;
@@ -187,26 +187,34 @@ impl Platter {
         self.kept.sectors[p.0 as usize].faulty
     }
 
-    /// Takes the samples of a sector.
-    pub fn fetch(&mut self, p: Psn, attempt: Attempt, out: &mut [i8; SAMPLES]) -> FetchAnswer
-        requires room { 1 ≤ self.old.room }
+    /// A stage tries a sector, in room for two operations: its samples are taken and decoded, and what was found is noted. None
+    /// while the power is off. The buffers are for use in between.
+    pub fn try_sector(
+        &mut self,
+        path: &mut Path,
+        samples: &mut [i8; SAMPLES],
+        p: Psn,
+        stage: Stage,
+    ) -> Option<Option<Payload>>
+        requires room { 2 ≤ self.old.room }
         requires sector { p.0 < self.old.sectors }
-        ensures answer { result ≡ fetch_answer_of self.old }
-        ensures after { self.new ≡ after_fetch self.old p attempt }
-        ensures given { log.is_off self.old.ops ≡ false → IsGiven self.old.ops p attempt out.new }
-        ensures off { log.is_off self.old.ops ≡ true → out.new ≡ out.old }
+        ensures { MatchOption result
+            ((log.is_off self.old.ops ≡ true) × (self.new ≡ self.old))
+            (λ found. (log.is_off self.old.ops ≡ false) × (self.new ≡ tried self.old p stage found)) }
     {
         if self.off {
-            return FetchAnswer::Off;
+            return None;
         }
-        let n = self.kept.ops.len() as u64;
-        flaws::give(&self.kept, &mut self.order, p, attempt, out);
+        let found = find(&self.kept, &mut self.order, path, samples, p, stage);
+        let at = self.kept.ops.len() as u64;
+        let attempt = Attempt::of(&stage);
         self.add(Op::Fetched { p, attempt }, false);
-        FetchAnswer::Taken(n)
+        self.note(at, p, stage, found.as_ref());
+        Some(found)
     }
 
-    /// Notes what was found in the samples of the fetch of a number.
-    pub fn note(&mut self, at: u64, p: Psn, stage: Stage, found: Option<&Payload>)
+    // Notes what was found in the samples of the fetch of a number.
+    fn note(&mut self, at: u64, p: Psn, stage: Stage, found: Option<&Payload>)
         requires room { 1 ≤ self.old.room }
         requires sector { p.0 < self.old.sectors }
 

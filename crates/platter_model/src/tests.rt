@@ -1,7 +1,7 @@
 ghost use Rattle.std.specs.Prelude.{◌≡◌, ◌+◌, ◌≤◌, ◌<◌, IfOk};
 
 use super::*;
-use channel_path::{Path, SAMPLES, read_samples, write_samples};
+use channel_path::{Path, SAMPLES, write_samples};
 use disk_base::{How, Lba, Payload, Psn, Stage};
 use read_recovery::stages;
 use std::alloc::Global;
@@ -56,17 +56,8 @@ fn read_by(
     ensures { platter.new.sectors ≡ platter.old.sectors }
 {
     platter.reserve(2)?;
-    platter.has_a_true_log();
-    what_is_read_may_be_noted();
     let mut samples = [0; SAMPLES];
-    match platter.fetch(p, Attempt::of(&stage), &mut samples) {
-        FetchAnswer::Off => Ok(None),
-        FetchAnswer::Taken(at) => {
-            let found = read_samples(path, p, &samples, stage.how);
-            platter.note(at, p, stage, found.as_ref());
-            Ok(found)
-        }
-    }
+    Ok(platter.try_sector(path, &mut samples, p, stage).flatten())
 }
 
 // A soft damage is over at its count of rereads, and a write fault lets no write through.
