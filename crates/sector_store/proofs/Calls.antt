@@ -15,7 +15,7 @@ use Rattle.platter_model.specs.declared.op.Op.TheVariants as op
 use Rattle.platter_model.specs.declared.world.World.{World}
 use Rattle.platter_model.specs.declared.world.World.TheVariants as world
 use Rattle.platter_model.specs.Sector.{meant, is_faulty}
-use Rattle.platter_model.specs.State.{State, with_op, torn, after_good_write, after_write, write_answer}
+use Rattle.platter_model.specs.State.{State, tried, with_op, torn, after_good_write, after_write, write_answer}
 use Rattle.platter_model.specs.TrueLog.{attempt_of, is_off, strays}
 use Rattle.geometry_map.specs.Size.{total_of, capacity_of}
 use Rattle.geometry_map.specs.declared.placer.Placer.{Placer}
@@ -27,7 +27,7 @@ use Rattle.sector_store.specs.declared.answer.TryAnswer.TheVariants as try_answe
 use Rattle.sector_store.specs.declared.answer.StoreAnswer.{StoreAnswer}
 use Rattle.sector_store.specs.declared.answer.StoreAnswer.TheVariants as store_answer
 use Rattle.sector_store.specs.Stored.{stored, IsThere, KeepsBlocks, KeepsOthers, StoresAt, MayStoreAt}
-use Rattle.sector_store.specs.State.{Contained, IsStore, tried, answer_for, placed, answer_by}
+use Rattle.sector_store.specs.State.{Contained, IsStore, answer_for, placed, answer_by}
 use Rattle.sector_store.specs.Happening.{after_world}
 use Rattle.sector_store.specs.Laws.{QuietOpsKeepBlocks, WritesStoreOneBlock, TriesFindWhatIsStored, IsBlockWrite}
 use Rattle.sector_store.proofs.Meant.{meant-push}

@@ -1,5 +1,5 @@
 -- Small cases of how operations look.
-use Rattle.std.proofs.Common.{◌≡◌, ℕ, ◌++◌, List, [], ◌∷◌, map, take, Some, None, refl, inl, inr}
+use Rattle.std.proofs.Common.{ℕ, List, [], ◌∷◌, map, Some, None, refl, inl, inr}
 use Rattle.disk_base.specs.declared.address.Lba.{Lba}
 use Rattle.disk_base.specs.declared.address.Psn.{Psn}
 use Rattle.disk_base.specs.declared.block.Value.TheVariants.{Lost}

@@ -10,7 +10,7 @@ use Rattle.platter_model.specs.declared.op.Op.{Op}
 use Rattle.platter_model.specs.declared.op.Op.TheVariants.{Wrote}
 use Rattle.platter_model.specs.declared.answer.WriteAnswer.TheVariants.{Written, Fault, Off}
 use Rattle.platter_model.specs.Sector.{meant}
-use Rattle.platter_model.specs.State.{State, after_write, write_answer}
+use Rattle.platter_model.specs.State.{State, after_write, tried, write_answer}
 use Rattle.platter_model.specs.TrueLog.{strays}
 use Rattle.geometry_map.specs.declared.size.Size.{Size}
 use Rattle.geometry_map.specs.Size.{capacity_of, total_of}
@@ -18,7 +18,7 @@ use Rattle.geometry_map.specs.DefectMap.{DefectMap, place_of, factory_map, IsVal
 use Rattle.sector_store.specs.Maps.{MayBeRecovered}
 use Rattle.sector_store.specs.Stored.{stored, IsThere, KeepsBlocks, KeepsOthers, StoresAt, MayStoreAt}
 use Rattle.sector_store.specs.Factory.{factory_payloads}
-use Rattle.sector_store.specs.State.{placed, tried}
+use Rattle.sector_store.specs.State.{placed}
 
 -- where a map is there, each map that recovery may take has its values for all blocks
 abbrev pub RecoveryFindsWhatIsStored : Type 0

@@ -1,15 +1,13 @@
 -- What contracts see of a store, and how its calls change that.
-use Rattle.std.specs.Prelude.{◌≡◌, ℕ, List, length, Option, Some, None}
+use Rattle.std.specs.Prelude.{◌≡◌, ℕ, List, Option, Some, None}
 use Rattle.disk_base.specs.declared.address.Lba.{Lba}
 use Rattle.disk_base.specs.declared.address.Psn.{Psn}
 use Rattle.disk_base.specs.declared.payload.Payload.{Payload}
 use Rattle.disk_base.specs.declared.stage.Stage.{Stage}
 use Rattle.disk_base.specs.Payload.{user_payload, value_for}
-use Rattle.platter_model.specs.declared.op.Op.TheVariants.{Fetched, Tried}
 use Rattle.platter_model.specs.declared.answer.WriteAnswer.{WriteAnswer}
 use Rattle.platter_model.specs.declared.answer.WriteAnswer.TheVariants.{Written, Fault, Off}
-use Rattle.platter_model.specs.State.{State, made, with_op, with_room, after_write}
-use Rattle.platter_model.specs.TrueLog.{attempt_of}
+use Rattle.platter_model.specs.State.{State, made, tried, with_room, after_write}
 use Rattle.geometry_map.specs.declared.size.Size.{Size}
 use Rattle.geometry_map.specs.Size.{total_of}
 use Rattle.geometry_map.specs.DefectMap.{DefectMap, factory_map, place_of}
@@ -43,10 +41,6 @@ made_by_factory size primary = record {
 -- a store with room for so many more operations
 abbrev pub with_room_for : Contained → ℕ → Contained
 with_room_for s n = record s { platter = with_room s.platter n }
-
--- a platter after a try of a sector: a fetch by the stage's attempt, and what the stage found in its samples
-abbrev pub tried : State → Psn → Stage → Option Payload → State
-tried s p stage found = with_op (with_op s (Fetched p (attempt_of stage))) (Tried (length s.ops) p stage found)
 
 -- a store after a try of a block's place
 abbrev pub after_try : Contained → Lba → Stage → Option Payload → Contained

@@ -1,5 +1,5 @@
 //! The store and its calls.
-ghost use Rattle.std.specs.Prelude.{◌≡◌, ◌≢◌, ◌↔◌, ◌≤◌, ◌<◌, true, false, IfOk, OnOk, OnErr, MatchOption, MatchResult};
+ghost use Rattle.std.specs.Prelude.{◌≡◌, ◌≢◌, ◌↔◌, ◌≤◌, ◌<◌, true, false, IfOk, OnOk, OnErr, MatchResult};
 ghost use Rattle.disk_base.specs.declared.block.Value.{Value as BlockValue};
 ghost use Rattle.disk_base.specs.declared.block.Value.TheVariants.{Data as BlockData};
 ghost use Rattle.platter_model.specs.TrueLog.{is_off, strays};
@@ -7,7 +7,7 @@ ghost use Rattle.platter_model.specs.State.{write_answer};
 ghost use Rattle.geometry_map.specs.Size.{capacity_of};
 ghost use Rattle.geometry_map.specs.DefectMap.{IsPrimaryList, factory_map, place_of};
 ghost use Rattle.sector_store.specs.Stored.{stored, KeepsBlocks, KeepsOthers, StoresAt, MayStoreAt};
-ghost use Rattle.sector_store.specs.State.{IsStore, IsTry, made_by_factory, with_room_for, tried, answer_for, after_write_of, answer_by};
+ghost use Rattle.sector_store.specs.State.{IsStore, IsTry, made_by_factory, with_room_for, answer_for, after_write_of, answer_by};
 ghost use Rattle.sector_store.specs.Happening.{MayHappen, after_world};
 ghost use Rattle.sector_store.specs.Lending.{LendsCache};
 ghost use Rattle.std.specs.Borrow.{sem};
@@ -17,12 +17,10 @@ use crate::law::{
     tries_find_what_is_stored, writes_store_one_block,
 };
 use crate::{StoreAnswer, StoreFault, TryAnswer, factory};
-use channel_path::{Path, SAMPLES, read_samples};
+use channel_path::{Path, SAMPLES};
 use disk_base::{Block, Lba, NoMemory, Payload, Psn, Stage};
 use geometry_map::{Map, Placer, Size, blocks_are_at_user_sectors};
-use platter_model::{
-    Attempt, FetchAnswer, Ops, Platter, World, WriteAnswer, what_is_read_may_be_noted,
-};
+use platter_model::{Ops, Platter, World, WriteAnswer};
 use std::alloc::Global;
 use std::marker::Model;
 use write_cache::Cache;
@@ -105,13 +103,9 @@ impl Store {
         quiet_operations_keep_blocks();
         tries_find_what_is_stored();
         let p = self.placer.place(b);
-        let seen = try_sector(
-            &mut self.platter,
-            &mut self.path,
-            &mut self.samples,
-            p,
-            stage,
-        );
+        let seen = self
+            .platter
+            .try_sector(&mut self.path, &mut self.samples, p, stage);
         answer_of(b, seen)
     }
 
@@ -203,32 +197,6 @@ impl Store {
             path: Path::new(alloc)?,
             samples: Box::new(alloc, [0; SAMPLES])?,
         })
-    }
-}
-
-// A stage tries a sector: what it found, or none while the power is off.
-fn try_sector(
-    platter: &mut Platter,
-    path: &mut Path,
-    samples: &mut [i8; SAMPLES],
-    p: Psn,
-    stage: Stage,
-) -> Option<Option<Payload>>
-    requires room { 2 ≤ platter.old.room }
-    requires sector { p.0 < platter.old.sectors }
-    ensures { MatchOption result
-        ((is_off platter.old.ops ≡ true) × (platter.new ≡ platter.old))
-        (λ found. (is_off platter.old.ops ≡ false) × (platter.new ≡ tried platter.old p stage found)) }
-{
-    platter.has_a_true_log();
-    what_is_read_may_be_noted();
-    match platter.fetch(p, Attempt::of(&stage), samples) {
-        FetchAnswer::Off => None,
-        FetchAnswer::Taken(at) => {
-            let found = read_samples(path, p, samples, stage.how);
-            platter.note(at, p, stage, found.as_ref());
-            Some(found)
-        }
     }
 }
 

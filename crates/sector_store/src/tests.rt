@@ -1,12 +1,10 @@
 ghost use Rattle.std.specs.Prelude.{◌≡◌, ◌+◌, ◌≤◌, ◌<◌};
 
 use super::*;
-use channel_path::{Path, SAMPLES, read_samples};
+use channel_path::{Path, SAMPLES};
 use disk_base::{Block, How, Lba, Payload, Psn, Stage, Value};
 use geometry_map::Size;
-use platter_model::{
-    Attempt, Damage, Effect, FetchAnswer, Lasting, Left, Platter, Tear, World, WriteAnswer,
-};
+use platter_model::{Damage, Effect, Lasting, Left, Platter, Tear, World, WriteAnswer};
 use read_recovery::stages;
 use std::alloc::Global;
 use std::test::Fail;
@@ -157,12 +155,19 @@ fn switch_on(platter: &mut Platter) -> Result<(), Fail>
 fn read_plainly(platter: &mut Platter, path: &mut Path) -> Result<Option<Payload>, Fail>
     requires { 20 < platter.old.sectors }
 {
-    platter.reserve(1)?;
+    platter.reserve(2)?;
     let mut samples = [0; SAMPLES];
-    match platter.fetch(Psn(20), Attempt::default(), &mut samples) {
-        FetchAnswer::Off => Ok(None),
-        FetchAnswer::Taken(_) => Ok(read_samples(path, Psn(20), &samples, How::Light)),
-    }
+    let plain = Stage {
+        number: 0,
+        reread: 0,
+        offset: 0,
+        how: How::Light,
+    };
+    Ok(
+        platter
+            .try_sector(path, &mut samples, Psn(20), plain)
+            .flatten(),
+    )
 }
 
 // What is found on a sector with 11h after a write of 22h was torn there.

@@ -10,7 +10,7 @@ try_sector-seen-requires-clause-sector c =
 
 pub invariant_of-self : goal.invariant_of-self
 invariant_of-self c =
-    let quiet = quiet_try c.args.self.now c.self.inside.map c.self.inside.platter c.try_sector-seen.new.platter c.args.b c.place-p.result c.args.stage c.try_sector-seen.result
+    let quiet = quiet_try c.args.self.now c.self.inside.map c.self.inside.platter c.try_sector-seen.new.self c.args.b c.place-p.result c.args.stage c.try_sector-seen.result
     c.quiet_operations_keep_blocks.ensures c.stands.ensures
     (ap (λ (s : Contained). s.map) c.self.view_is) (ap (λ (s : Contained). s.platter) c.self.view_is)
     (placed_by c.args.self.now c.self.inside.map c.self.inside.placer c.args.b c.place-p.result (ap (λ (s : Contained). s.map) c.self.view_is) c.self.invariant.placer c.requires.block c.place-p.ensures)
@@ -19,7 +19,7 @@ invariant_of-self c =
 
 pub returns-clause-keeps : goal.returns-clause-keeps
 returns-clause-keeps c =
-    (quiet_try c.args.self.now c.self.inside.map c.self.inside.platter c.try_sector-seen.new.platter c.args.b c.place-p.result c.args.stage c.try_sector-seen.result
+    (quiet_try c.args.self.now c.self.inside.map c.self.inside.platter c.try_sector-seen.new.self c.args.b c.place-p.result c.args.stage c.try_sector-seen.result
     c.quiet_operations_keep_blocks.ensures c.stands.ensures
     (ap (λ (s : Contained). s.map) c.self.view_is) (ap (λ (s : Contained). s.platter) c.self.view_is)
     (placed_by c.args.self.now c.self.inside.map c.self.inside.placer c.args.b c.place-p.result (ap (λ (s : Contained). s.map) c.self.view_is) c.self.invariant.placer c.requires.block c.place-p.ensures)
@@ -27,7 +27,7 @@ returns-clause-keeps c =
 
 pub returns-clause-found : goal.returns-clause-found
 returns-clause-found c =
-    found_stored c.args.self.now c.self.inside.platter c.try_sector-seen.new.platter c.args.b c.place-p.result c.args.stage c.try_sector-seen.result c.answer_of.result
+    found_stored c.args.self.now c.self.inside.platter c.try_sector-seen.new.self c.args.b c.place-p.result c.args.stage c.try_sector-seen.result c.answer_of.result
     c.tries_find_what_is_stored.ensures (ap (λ (s : Contained). s.platter) c.self.view_is)
     (placed_by c.args.self.now c.self.inside.map c.self.inside.placer c.args.b c.place-p.result (ap (λ (s : Contained). s.map) c.self.view_is) c.self.invariant.placer c.requires.block c.place-p.ensures)
     c.try_sector-seen.ensures c.answer_of.ensures
