@@ -100,8 +100,8 @@ ReadsGiveHardenedOrNewer capacity turns = (before after : List Entry) (c : ℕ) 
     → entries_of turns ≡ before ++ Get c b (Data d) ∷ after
     → IsTrue (list_any (same_value (Data d)) (values_since_hardened b.0 before))
 
--- a law: after a power cut the first read that isn't bad settles what the block has: each later one gives the same or is bad,
--- over further cuts, until a newer value is put or the block is given up
+-- a law: reads of a block after a power cut that aren't bad give one value, over further cuts, as long as nothing newer was put
+-- since the cut and the block wasn't given up
 abbrev pub FirstReadSettles : ℕ → List Turn → Type 0
 FirstReadSettles capacity turns = (before first between after : List Entry) (b : Lba) (c1 c2 : ℕ) (d1 d2 : List ℕ)
     → entries_of turns ≡ before ++ Cut ∷ (first ++ Get c1 b (Data d1) ∷ (between ++ Get c2 b (Data d2) ∷ after))

@@ -20,8 +20,8 @@ pub fn reads_give_hardened_or_newer()
     ensures { OfLegalHistories ReadsGiveHardenedOrNewer }
 {}
 
-/// After a power cut the first read that isn't bad settles what the block has: each later one gives the same or is bad,
-/// until a newer value is put or the block is given up.
+/// The first read after a power cut that isn't bad settles what the block has, where nothing newer was put since the cut and the
+/// block wasn't given up: each later one gives the same or is bad, for as long as that stays so.
 pub fn first_read_settles()
     ensures { OfLegalHistories FirstReadSettles }
 {}
