@@ -21,19 +21,13 @@ use Rattle.report_text.specs.Entries.{page_word, flag_word, entry_words}
 use Rattle.report_text.specs.Fields.{number_of, sent_of, page_of}
 use Rattle.report_text.specs.EntryReading.{entry_form, arrived, who_of, flag_of, entry_from}
 use Rattle.report_text.specs.Proper.{IsShort, IsLong, MaySay, IsEntry}
-use Rattle.report_text.proofs.FieldLaws.{number_again, bytes_again, byte_again, no_letter, other_digit, value_again, sense_again}
-
-short_again : (n : ℕ) → IsShort n → number_of 0 4294967295 (decimal n) ≡ Some n
-short_again n fits = number_again 0 4294967295 n (omega arith) fits (lit< tt)
+use Rattle.report_text.proofs.FieldLaws.{number_again, short_again, small_again, bytes_again, byte_again, no_letter, other_digit, value_again, sense_again}
 
 long_again : (n : ℕ) → IsLong n → number_of 0 18446744073709551615 (decimal n) ≡ Some n
 long_again n fits = number_again 0 18446744073709551615 n (omega arith) fits (lit< tt)
 
 eight_again : (i : ℕ) → 1 ≤ i → i ≤ 8 → number_of 1 8 (decimal i) ≡ Some i
 eight_again i least most = number_again 1 8 i least most (lit< tt)
-
-small_again : (n : ℕ) → n ≤ 255 → number_of 0 255 (decimal n) ≡ Some n
-small_again n fits = number_again 0 255 n (omega arith) fits (lit< tt)
 
 half_again : (n : ℕ) → n ≤ 65535 → number_of 0 65535 (decimal n) ≡ Some n
 half_again n fits = number_again 0 65535 n (omega arith) fits (lit< tt)

@@ -13,13 +13,13 @@ use Rattle.block_machine.specs.declared.entry.Entry.TheVariants.{Started, Aborte
 use Rattle.text_words.specs.Digits.{bytes_of, byte_of}
 use Rattle.text_words.specs.Data.{value_of}
 use Rattle.script_text.specs.Proper.{IsSent, IsAsked}
-use Rattle.report_text.specs.Fields.{number_of, command_of, block_of, tag_of, sent_of, page_of, sense_of}
+use Rattle.report_text.specs.Fields.{number_of, command_of, lone_number, block_of, tag_of, sent_of, page_of, sense_of}
 use Rattle.report_text.specs.Findings.{finding_of}
-use Rattle.report_text.specs.EntryReading.{entry_form, arrived, arrived_words, lone_command, get_words, data_in, put_words, who_of, harden_words, pass_words, lose_words, page_words, end_words, function_of, func_words, mode_words, scanned_words, logged_words, recovered_of, on_words, cut_words, tick_words, entry_of, entry_from}
+use Rattle.report_text.specs.EntryReading.{entry_form, arrived, arrived_words, get_words, data_in, put_words, who_of, harden_words, pass_words, lose_words, page_words, end_words, function_of, func_words, mode_words, scanned_words, logged_words, recovered_of, on_words, cut_words, tick_words, entry_of, entry_from}
 use Rattle.report_text.specs.declared.form.EntryForm.{EntryForm}
 use Rattle.report_text.specs.declared.form.EntryForm.TheVariants.{Arrived as In, Started as Start, Get as Got, Put as PutForm, Harden as Hard, Passed as Pass, GiveUp as Lose, Page as PageForm, Ended as End, Aborted as Gone, Asked as Func, Mode as ModeForm, Scanned as ScannedForm, Logged as LoggedForm, Cut as CutForm, PoweredOn as On, Tick as TickForm, Blank as BlankForm, Fresh as FreshForm}
 use Rattle.report_text.specs.Proper.{IsShort, IsBlock, IsValue, IsWho, IsRecovered, IsEntry}
-use Rattle.report_text.proofs.ReadRanges.{through, past, required, either_way, mapped, IsFrom, number_range, command_range, IsAddress, block_range, IsTag, tag_range, bytes_range, IsByte, byte_range, sent_range, page_range, value_range, sense_range, IsTold, finding_range}
+use Rattle.report_text.proofs.ReadRanges.{through, past, required, either_way, none_range, one_range, two_range, three_range, mapped, IsFrom, number_range, command_range, lone_number_range, IsAddress, block_range, IsTag, tag_range, bytes_range, IsByte, byte_range, sent_range, page_range, value_range, sense_range, IsTold, finding_range}
 
 arrived_range : (m : ℕ) (c i t a cdb sent : List ℕ) → IfSome (arrived c i t a cdb sent) (IsEntry m)
 unfolding arrived
@@ -42,69 +42,44 @@ arrived_words_range m (c ∷ i ∷ t ∷ a ∷ cdb ∷ []) = tt
 arrived_words_range m (c ∷ i ∷ t ∷ a ∷ cdb ∷ sent ∷ []) = arrived_range m c i t a cdb sent
 arrived_words_range m (c ∷ i ∷ t ∷ a ∷ cdb ∷ sent ∷ more ∷ rest) = tt
 
-lone_range : (words : List (List ℕ)) → IfSome (lone_command words) IsShort
-lone_range [] = tt
-lone_range (c ∷ []) = command_range c
-lone_range (c ∷ more ∷ rest) = tt
-
 get_range : (m : ℕ) (words : List (List ℕ)) → IfSome (get_words words) (IsEntry m)
-get_range m [] = tt
-get_range m (c ∷ []) = tt
-get_range m (c ∷ b ∷ []) = tt
-get_range m (c ∷ b ∷ v ∷ []) =
+get_range m = three_range (IsEntry m) _ (λ c b v.
     through IsShort (IsEntry m) (command_of c) _ (command_range c) (λ command short.
     through IsAddress (IsEntry m) (block_of b) _ (block_range b) (λ block long.
-    through IsValue (IsEntry m) (value_of v) _ (value_range v) (λ value is. (short, long, is))))
-get_range m (c ∷ b ∷ v ∷ more ∷ rest) = tt
+    through IsValue (IsEntry m) (value_of v) _ (value_range v) (λ value is. (short, long, is)))))
 
 data_range : (value : Value) → IsValue value → IfSome (data_in value) IsBlock
 data_range (Data block) is = is
 data_range Lost is = tt
 
 put_range : (m : ℕ) (words : List (List ℕ)) → IfSome (put_words words) (IsEntry m)
-put_range m [] = tt
-put_range m (c ∷ []) = tt
-put_range m (c ∷ b ∷ []) = tt
-put_range m (c ∷ b ∷ v ∷ []) =
+put_range m = three_range (IsEntry m) _ (λ c b v.
     through IsShort (IsEntry m) (command_of c) _ (command_range c) (λ command short.
     through IsAddress (IsEntry m) (block_of b) _ (block_range b) (λ block long.
     through IsValue (IsEntry m) (value_of v) _ (value_range v) (λ value is.
-    through IsBlock (IsEntry m) (data_in value) _ (data_range value is) (λ bytes are. (short, long, are)))))
-put_range m (c ∷ b ∷ v ∷ more ∷ rest) = tt
+    through IsBlock (IsEntry m) (data_in value) _ (data_range value is) (λ bytes are. (short, long, are))))))
 
 who_range : (word : List ℕ) → IfSome (who_of word) IsWho
 who_range word = either_way IsWho (bytes_eq word (codes "d")) _ _ tt (through IsShort IsWho (command_of word) _ (command_range word) (λ c fits. fits))
 
 harden_range : (m : ℕ) (words : List (List ℕ)) → IfSome (harden_words words) (IsEntry m)
-harden_range m [] = tt
-harden_range m (who ∷ []) = tt
-harden_range m (who ∷ b ∷ []) =
+harden_range m = two_range (IsEntry m) _ (λ who b.
     through IsWho (IsEntry m) (who_of who) _ (who_range who) (λ by is.
-    through IsAddress (IsEntry m) (block_of b) _ (block_range b) (λ block long. (is, long)))
-harden_range m (who ∷ b ∷ more ∷ rest) = tt
+    through IsAddress (IsEntry m) (block_of b) _ (block_range b) (λ block long. (is, long))))
 
 pass_range : (m : ℕ) (words : List (List ℕ)) → IfSome (pass_words words) (IsEntry m)
-pass_range m [] = tt
-pass_range m (c ∷ []) = tt
-pass_range m (c ∷ from ∷ []) = tt
-pass_range m (c ∷ from ∷ to ∷ []) =
+pass_range m = three_range (IsEntry m) _ (λ c from to.
     through IsShort (IsEntry m) (command_of c) _ (command_range c) (λ command short.
     through IsAddress (IsEntry m) (block_of from) _ (block_range from) (λ first low.
-    through IsAddress (IsEntry m) (block_of to) _ (block_range to) (λ end high. (short, low, high))))
-pass_range m (c ∷ from ∷ to ∷ more ∷ rest) = tt
+    through IsAddress (IsEntry m) (block_of to) _ (block_range to) (λ end high. (short, low, high)))))
 
 lose_range : (m : ℕ) (words : List (List ℕ)) → IfSome (lose_words words) (IsEntry m)
-lose_range m [] = tt
-lose_range m (b ∷ []) = through IsAddress (IsEntry m) (block_of b) _ (block_range b) (λ block long. long)
-lose_range m (b ∷ more ∷ rest) = tt
+lose_range m = one_range (IsEntry m) _ (λ b. through IsAddress (IsEntry m) (block_of b) _ (block_range b) (λ block long. long))
 
 page_words_range : (m : ℕ) (words : List (List ℕ)) → IfSome (page_words words) (IsEntry m)
-page_words_range m [] = tt
-page_words_range m (c ∷ []) = tt
-page_words_range m (c ∷ word ∷ []) =
+page_words_range m = two_range (IsEntry m) _ (λ c word.
     through IsShort (IsEntry m) (command_of c) _ (command_range c) (λ command short.
-    through IsBytes (IsEntry m) (page_of word) _ (page_range word) (λ bytes are. (short, are)))
-page_words_range m (c ∷ word ∷ more ∷ rest) = tt
+    through IsBytes (IsEntry m) (page_of word) _ (page_range word) (λ bytes are. (short, are))))
 
 end_range : (m : ℕ) (words : List (List ℕ)) → IfSome (end_words words) (IsEntry m)
 end_range m [] = tt
@@ -147,19 +122,13 @@ mode_range m (a ∷ b ∷ c ∷ retry ∷ d ∷ e ∷ f ∷ []) = through (IsFro
 mode_range m (a ∷ b ∷ c ∷ retry ∷ d ∷ e ∷ f ∷ more ∷ rest) = tt
 
 scanned_range : (m : ℕ) (words : List (List ℕ)) → IfSome (scanned_words words) (IsEntry m)
-scanned_range m [] = tt
-scanned_range m (b ∷ []) = tt
-scanned_range m (b ∷ what ∷ []) = through IsAddress (IsEntry m) (block_of b) _ (block_range b) (λ block long. long)
-scanned_range m (b ∷ what ∷ more ∷ rest) = tt
+scanned_range m = two_range (IsEntry m) _ (λ b what. through IsAddress (IsEntry m) (block_of b) _ (block_range b) (λ block long. long))
 
 logged_range : (m : ℕ) (words : List (List ℕ)) → IfSome (logged_words m words) (IsEntry m)
-logged_range m [] = tt
-logged_range m (status ∷ []) = tt
-logged_range m (status ∷ b ∷ []) =
+logged_range m = two_range (IsEntry m) _ (λ status b.
     past (IsEntry m) (number_of 0 255 status) _ (λ n.
     through IsAddress (IsEntry m) (block_of b) _ (block_range b) (λ block long.
-    through (IsTold m) (IsEntry m) (finding_of m n block) _ (finding_range m n block long) (λ f told. told)))
-logged_range m (status ∷ b ∷ more ∷ rest) = tt
+    through (IsTold m) (IsEntry m) (finding_of m n block) _ (finding_range m n block long) (λ f told. told))))
 
 recovered_range : (what n : List ℕ) → IfSome (recovered_of what n) IsRecovered
 recovered_range what n =
@@ -170,23 +139,17 @@ recovered_range what n =
     (through (IsFrom 0 18446744073709551615) IsRecovered (number_of 0 18446744073709551615 n) _ (number_range 0 18446744073709551615 n) (λ k from. from.1)))
 
 on_range : (m : ℕ) (words : List (List ℕ)) → IfSome (on_words words) (IsEntry m)
-on_range m [] = tt
-on_range m (what ∷ []) = tt
-on_range m (what ∷ n ∷ []) = through IsRecovered (IsEntry m) (recovered_of what n) _ (recovered_range what n) (λ outcome is. is)
-on_range m (what ∷ n ∷ more ∷ rest) = tt
+on_range m = two_range (IsEntry m) _ (λ what n. through IsRecovered (IsEntry m) (recovered_of what n) _ (recovered_range what n) (λ outcome is. is))
 
 cut_range : (m : ℕ) (words : List (List ℕ)) → IfSome (cut_words words) (IsEntry m)
-cut_range m [] = tt
-cut_range m (more ∷ rest) = tt
+cut_range m = none_range (IsEntry m) _ tt
 
 tick_range : (m : ℕ) (words : List (List ℕ)) → IfSome (tick_words words) (IsEntry m)
-tick_range m [] = tt
-tick_range m (n ∷ []) = through (IsFrom 0 65535) (IsEntry m) (number_of 0 65535 n) _ (number_range 0 65535 n) (λ k from. from.1)
-tick_range m (n ∷ more ∷ rest) = tt
+tick_range m = one_range (IsEntry m) _ (λ n. through (IsFrom 0 65535) (IsEntry m) (number_of 0 65535 n) _ (number_range 0 65535 n) (λ k from. from.1))
 
 entry_of_range : (m : ℕ) (form : EntryForm) (words : List (List ℕ)) → IfSome (entry_of m form words) (IsEntry m)
 entry_of_range m In words = arrived_words_range m words
-entry_of_range m Start words = mapped IsShort (IsEntry m) (lone_command words) Started (lone_range words) (λ c fits. fits)
+entry_of_range m Start words = mapped IsShort (IsEntry m) (lone_number words) Started (lone_number_range words) (λ c fits. fits)
 entry_of_range m Got words = get_range m words
 entry_of_range m PutForm words = put_range m words
 entry_of_range m Hard words = harden_range m words
@@ -194,7 +157,7 @@ entry_of_range m Pass words = pass_range m words
 entry_of_range m Lose words = lose_range m words
 entry_of_range m PageForm words = page_words_range m words
 entry_of_range m End words = end_range m words
-entry_of_range m Gone words = mapped IsShort (IsEntry m) (lone_command words) Aborted (lone_range words) (λ c fits. fits)
+entry_of_range m Gone words = mapped IsShort (IsEntry m) (lone_number words) Aborted (lone_number_range words) (λ c fits. fits)
 entry_of_range m Func words = func_range m words
 entry_of_range m ModeForm words = mode_range m words
 entry_of_range m ScannedForm words = scanned_range m words
@@ -202,8 +165,8 @@ entry_of_range m LoggedForm words = logged_range m words
 entry_of_range m CutForm words = cut_range m words
 entry_of_range m On words = on_range m words
 entry_of_range m TickForm words = tick_range m words
-entry_of_range m BlankForm words = mapped IsShort (IsEntry m) (lone_command words) Blank (lone_range words) (λ c fits. fits)
-entry_of_range m FreshForm words = mapped IsShort (IsEntry m) (lone_command words) Fresh (lone_range words) (λ c fits. fits)
+entry_of_range m BlankForm words = mapped IsShort (IsEntry m) (lone_number words) Blank (lone_number_range words) (λ c fits. fits)
+entry_of_range m FreshForm words = mapped IsShort (IsEntry m) (lone_number words) Fresh (lone_number_range words) (λ c fits. fits)
 
 pub entry_range : (m : ℕ) (words : List (List ℕ)) → IfSome (entry_from m words) (IsEntry m)
 entry_range m [] = tt

@@ -28,11 +28,18 @@ use Rattle.report_text.specs.Steps.{◌>>=◌}
 use Rattle.report_text.specs.Fields.{number_of, signed_of, sense_from, sense_of}
 use Rattle.sense_data.specs.declared.sense.Sense.{Sense}
 use Rattle.sense_data.specs.Sense.{IsSense, sense_bytes, fields_of}
-use Rattle.report_text.specs.Proper.{IsOffset, IsValue}
+use Rattle.report_text.specs.Proper.{IsOffset, IsShort, IsValue}
 
 -- a number in its range
 pub number_again : (low high n : ℕ) → low ≤ n → n ≤ high → high < 2 ^ 64 → number_of low high (decimal n) ≡ Some n
 number_again low high n least most small = ap number_in (number-decimal low high n least most (omega arith))
+
+-- a number of 32 bits, and one of 8
+pub short_again : (n : ℕ) → IsShort n → number_of 0 4294967295 (decimal n) ≡ Some n
+short_again n fits = number_again 0 4294967295 n (omega arith) fits (lit< tt)
+
+pub small_again : (n : ℕ) → n ≤ 255 → number_of 0 255 (decimal n) ≡ Some n
+small_again n fits = number_again 0 255 n (omega arith) fits (lit< tt)
 
 -- the digits of bytes
 pub bytes_again : (bytes : List ℕ) → IsBytes bytes → bytes_of (hex_of bytes) ≡ Some bytes

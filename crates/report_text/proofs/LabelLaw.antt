@@ -16,11 +16,8 @@ use Rattle.script_text.specs.Proper.{IsLasting, IsEffect, IsHarm}
 use Rattle.report_text.specs.Turns.{label_words}
 use Rattle.report_text.specs.Fields.{number_of}
 use Rattle.report_text.specs.LabelReading.{label_form, effect_of, damage_of, label_from}
-use Rattle.report_text.specs.Proper.{IsShort, IsLabel}
-use Rattle.report_text.proofs.FieldLaws.{number_again, no_letter, change_again}
-
-short_again : (n : ℕ) → IsShort n → number_of 0 4294967295 (decimal n) ≡ Some n
-short_again n fits = number_again 0 4294967295 n (omega arith) fits (lit< tt)
+use Rattle.report_text.specs.Proper.{IsLabel}
+use Rattle.report_text.proofs.FieldLaws.{number_again, short_again, no_letter, change_again}
 
 -- the last word of what a damage does
 abbrev effect_last : Effect → List ℕ

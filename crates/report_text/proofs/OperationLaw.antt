@@ -1,20 +1,12 @@
 -- An operation, printed, is read as the same operation.
-use Rattle.std.proofs.Common.{◌≡◌, ℕ, ◌≤◌, true, false, Some, refl, arith, lit<}
-use Rattle.std.specs.Prelude.{decimal}
+use Rattle.std.proofs.Common.{◌≡◌, true, false, Some, refl}
 use Rattle.platter_model.specs.declared.damage.Left.TheVariants.{Old, New, Nothing}
 use Rattle.report_text.specs.declared.shown.Shown.{Shown}
 use Rattle.report_text.specs.declared.shown.Shown.TheVariants.{Wrote, Torn, WriteFailed, Damaged, Faulty, Fetched, Tried, Cut, Power}
 use Rattle.report_text.specs.Operations.{shown_words}
-use Rattle.report_text.specs.Fields.{number_of}
 use Rattle.report_text.specs.OperationReading.{operation_form, shown_from}
-use Rattle.report_text.specs.Proper.{IsShort, IsShown}
-use Rattle.report_text.proofs.FieldLaws.{number_again, offset_again}
-
-short_again : (n : ℕ) → IsShort n → number_of 0 4294967295 (decimal n) ≡ Some n
-short_again n fits = number_again 0 4294967295 n (omega arith) fits (lit< tt)
-
-small_again : (n : ℕ) → n ≤ 255 → number_of 0 255 (decimal n) ≡ Some n
-small_again n fits = number_again 0 255 n (omega arith) fits (lit< tt)
+use Rattle.report_text.specs.Proper.{IsShown}
+use Rattle.report_text.proofs.FieldLaws.{short_again, small_again, offset_again}
 
 pub shown_again : (s : Shown) → IsShown s → shown_from (shown_words s) ≡ Some s
 unfolding operation_form

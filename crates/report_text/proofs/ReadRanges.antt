@@ -23,10 +23,10 @@ use Rattle.text_words.specs.Number.{number, number_in, is_numeral, worth}
 use Rattle.text_words.specs.Digits.{bytes_of, byte_of}
 use Rattle.text_words.specs.Data.{mark_of, data_of, value_of}
 use Rattle.script_text.specs.Proper.{IsSent, IsLasting, IsEffect}
-use Rattle.report_text.specs.Steps.{◌>>=◌, demand}
-use Rattle.report_text.specs.Fields.{number_of, command_of, block_of, sector_of, tag_of, signed_of, sent_of, page_of, sense_from, sense_of}
+use Rattle.report_text.specs.Steps.{◌>>=◌, demand, of_none, of_one, of_two, of_three}
+use Rattle.report_text.specs.Fields.{number_of, command_of, lone_number, block_of, sector_of, tag_of, signed_of, sent_of, page_of, sense_from, sense_of}
 use Rattle.report_text.specs.Findings.{finding_of}
-use Rattle.report_text.specs.LabelReading.{lasting_of, effect_of, damage_of, damage_words, fault_words, cut_words, minutes_words, arrive_words, lone_number, label_form, label_by, label_from}
+use Rattle.report_text.specs.LabelReading.{lasting_of, effect_of, damage_of, damage_words, fault_words, cut_words, minutes_words, arrive_words, label_form, label_by, label_from}
 use Rattle.report_text.specs.OperationReading.{place_of, place_in, torn_words, fetched_words, tried_words, operation_form, shown_by, shown_from}
 use Rattle.report_text.specs.Proper.{IsShort, IsLong, IsOffset, IsShown, IsValue, IsLabel}
 use Rattle.report_text.specs.declared.form.LabelForm.{LabelForm}
@@ -52,6 +52,32 @@ pub either_way : {B : Type 0} (Q : B → Type 0) (b : Bool) (x y : Option B) →
 either_way Q true x y p q = p
 either_way Q false x y p q = q
 
+-- what just so many words are read as
+pub none_range : {A : Type 0} (Q : A → Type 0) (whole : A) → Q whole → (words : List (List ℕ)) → IfSome (of_none whole words) Q
+none_range Q whole h [] = h
+none_range Q whole h (more ∷ rest) = tt
+
+pub one_range : {A : Type 0} (Q : A → Type 0) (read : List ℕ → Option A) → ((a : List ℕ) → IfSome (read a) Q)
+    → (words : List (List ℕ)) → IfSome (of_one read words) Q
+one_range Q read h [] = tt
+one_range Q read h (a ∷ []) = h a
+one_range Q read h (a ∷ more ∷ rest) = tt
+
+pub two_range : {A : Type 0} (Q : A → Type 0) (read : List ℕ → List ℕ → Option A) → ((a b : List ℕ) → IfSome (read a b) Q)
+    → (words : List (List ℕ)) → IfSome (of_two read words) Q
+two_range Q read h [] = tt
+two_range Q read h (a ∷ []) = tt
+two_range Q read h (a ∷ b ∷ []) = h a b
+two_range Q read h (a ∷ b ∷ more ∷ rest) = tt
+
+pub three_range : {A : Type 0} (Q : A → Type 0) (read : List ℕ → List ℕ → List ℕ → Option A) → ((a b c : List ℕ) → IfSome (read a b c) Q)
+    → (words : List (List ℕ)) → IfSome (of_three read words) Q
+three_range Q read h [] = tt
+three_range Q read h (a ∷ []) = tt
+three_range Q read h (a ∷ b ∷ []) = tt
+three_range Q read h (a ∷ b ∷ c ∷ []) = h a b c
+three_range Q read h (a ∷ b ∷ c ∷ more ∷ rest) = tt
+
 abbrev pub IsFrom : ℕ → ℕ → ℕ → Type 0
 IsFrom low high n = (low ≤ n) × (n ≤ high)
 
@@ -71,6 +97,9 @@ command_range word = by_option (number_of 0 4294967295 word) (number_range 0 429
     by_option : (o : Option ℕ) → IfSome o (IsFrom 0 4294967295) → IfSome o IsShort
     by_option None h = tt
     by_option (Some n) h = h.1
+
+pub lone_number_range : (words : List (List ℕ)) → IfSome (lone_number words) IsShort
+lone_number_range = one_range IsShort _ command_range
 
 abbrev pub IsAddress : Lba → Type 0
 IsAddress b = IsLong b.0
@@ -147,9 +176,7 @@ damage_words_range (p ∷ f ∷ l ∷ a ∷ b ∷ c ∷ last ∷ []) = damage_ra
 damage_words_range (p ∷ f ∷ l ∷ a ∷ b ∷ c ∷ d ∷ more ∷ rest) = tt
 
 fault_words_range : (words : List (List ℕ)) → IfSome (fault_words words) IsLabel
-fault_words_range [] = tt
-fault_words_range (p ∷ []) = through (IsSector 16 4095) IsLabel (sector_of 16 4095 p) _ (sector_range 16 4095 p) (λ place at. (at.0, omega (arith, at.1)))
-fault_words_range (p ∷ more ∷ rest) = tt
+fault_words_range = one_range IsLabel _ (λ p. through (IsSector 16 4095) IsLabel (sector_of 16 4095 p) _ (sector_range 16 4095 p) (λ place at. (at.0, omega (arith, at.1))))
 
 cut_words_range : (words : List (List ℕ)) → IfSome (cut_words words) IsLabel
 cut_words_range [] = tt
@@ -162,33 +189,21 @@ cut_words_range (write ∷ k ∷ left ∷ scar ∷ []) =
 cut_words_range (a ∷ b ∷ c ∷ d ∷ more ∷ rest) = tt
 
 minutes_words_range : (words : List (List ℕ)) → IfSome (minutes_words words) IsLabel
-minutes_words_range [] = tt
-minutes_words_range (n ∷ []) = through (IsFrom 0 65535) IsLabel (number_of 0 65535 n) _ (number_range 0 65535 n) (λ m from. from.1)
-minutes_words_range (n ∷ more ∷ rest) = tt
+minutes_words_range = one_range IsLabel _ (λ n. through (IsFrom 0 65535) IsLabel (number_of 0 65535 n) _ (number_range 0 65535 n) (λ m from. from.1))
 
 arrive_words_range : (words : List (List ℕ)) → IfSome (arrive_words words) IsLabel
-arrive_words_range [] = tt
-arrive_words_range (i ∷ []) = through (IsFrom 1 8) IsLabel (number_of 1 8 i) _ (number_range 1 8 i) (λ m from. from)
-arrive_words_range (n ∷ more ∷ rest) = tt
-
-lone_number_range : (words : List (List ℕ)) → IfSome (lone_number words) IsShort
-lone_number_range [] = tt
-lone_number_range (c ∷ []) = command_range c
-lone_number_range (c ∷ more ∷ rest) = tt
+arrive_words_range = one_range IsLabel _ (λ i. through (IsFrom 1 8) IsLabel (number_of 1 8 i) _ (number_range 1 8 i) (λ m from. from))
 
 label_by_range : (form : LabelForm) (words : List (List ℕ)) → IfSome (label_by form words) IsLabel
 label_by_range ArriveForm words = arrive_words_range words
 label_by_range WorkForm words = through IsShort IsLabel (lone_number words) _ (lone_number_range words) (λ c fits. fits)
 label_by_range JobForm words = through IsShort IsLabel (lone_number words) _ (lone_number_range words) (λ c fits. fits)
-label_by_range ScanForm [] = tt
-label_by_range ScanForm (more ∷ rest) = tt
-label_by_range DestageForm [] = tt
-label_by_range DestageForm (more ∷ rest) = tt
+label_by_range ScanForm words = none_range IsLabel _ tt words
+label_by_range DestageForm words = none_range IsLabel _ tt words
 label_by_range DamageForm words = damage_words_range words
 label_by_range FaultForm words = fault_words_range words
 label_by_range CutForm words = cut_words_range words
-label_by_range PowerForm [] = tt
-label_by_range PowerForm (more ∷ rest) = tt
+label_by_range PowerForm words = none_range IsLabel _ tt words
 label_by_range MinutesForm words = minutes_words_range words
 
 pub label_range : (words : List (List ℕ)) → IfSome (label_from words) IsLabel
@@ -200,40 +215,25 @@ place_range : (word : List ℕ) → IfSome (place_of word) (IsSector 0 429496729
 place_range word = sector_range 0 4294967295 word
 
 place_in_range : (words : List (List ℕ)) → IfSome (place_in words) (IsSector 0 4294967295)
-place_in_range [] = tt
-place_in_range (p ∷ []) = place_range p
-place_in_range (p ∷ more ∷ rest) = tt
+place_in_range = one_range (IsSector 0 4294967295) _ place_range
 
 torn_range : (words : List (List ℕ)) → IfSome (torn_words words) IsShown
-torn_range [] = tt
-torn_range (p ∷ []) = tt
-torn_range (p ∷ left ∷ []) = through (IsSector 0 4294967295) IsShown (place_of p) _ (place_range p) (λ place at. at.1)
-torn_range (p ∷ left ∷ more ∷ rest) = tt
+torn_range = two_range IsShown _ (λ p left. through (IsSector 0 4294967295) IsShown (place_of p) _ (place_range p) (λ place at. at.1))
 
 fetched_range : (words : List (List ℕ)) → IfSome (fetched_words words) IsShown
-fetched_range [] = tt
-fetched_range (p ∷ []) = tt
-fetched_range (p ∷ reread ∷ []) = tt
-fetched_range (p ∷ reread ∷ offset ∷ []) =
+fetched_range = three_range IsShown _ (λ p reread offset.
     through (IsSector 0 4294967295) IsShown (place_of p) _ (place_range p) (λ place at.
     through (IsFrom 0 255) IsShown (number_of 0 255 reread) _ (number_range 0 255 reread) (λ count from.
-    through IsOffset IsShown (signed_of 128 0 127 offset) _ (offset_range offset) (λ beside fits. (at.1, from.1, fits))))
-fetched_range (p ∷ reread ∷ offset ∷ more ∷ rest) = tt
+    through IsOffset IsShown (signed_of 128 0 127 offset) _ (offset_range offset) (λ beside fits. (at.1, from.1, fits)))))
 
 tried_range : (words : List (List ℕ)) → IfSome (tried_words words) IsShown
-tried_range [] = tt
-tried_range (p ∷ []) = tt
-tried_range (p ∷ stage ∷ []) = tt
-tried_range (p ∷ stage ∷ found ∷ []) =
+tried_range = three_range IsShown _ (λ p stage found.
     through (IsSector 0 4294967295) IsShown (place_of p) _ (place_range p) (λ place at.
-    through (IsFrom 0 255) IsShown (number_of 0 255 stage) _ (number_range 0 255 stage) (λ n from. (at.1, from.1)))
-tried_range (p ∷ stage ∷ found ∷ more ∷ rest) = tt
+    through (IsFrom 0 255) IsShown (number_of 0 255 stage) _ (number_range 0 255 stage) (λ n from. (at.1, from.1))))
 
 shown_by_range : (form : OperationForm) (words : List (List ℕ)) → IfSome (shown_by form words) IsShown
-shown_by_range OpCutForm [] = tt
-shown_by_range OpCutForm (more ∷ rest) = tt
-shown_by_range OpPowerForm [] = tt
-shown_by_range OpPowerForm (more ∷ rest) = tt
+shown_by_range OpCutForm words = none_range IsShown _ tt words
+shown_by_range OpPowerForm words = none_range IsShown _ tt words
 shown_by_range TornForm words = torn_range words
 shown_by_range FetchedForm words = fetched_range words
 shown_by_range TriedForm words = tried_range words

@@ -1,5 +1,5 @@
 -- Counts stay within the number of entries.
-use Rattle.std.proofs.Common.{◌≡◌, ℕ, ◌+◌, ◌-◌, ◌<◌, ◌≤◌, ◌==◌, Bool, true, false, List, [], ◌∷◌, length, get_or, drop, sym, ap, ◌∙◌, add-one, drop-cons, arith}
+use Rattle.std.proofs.Common.{◌≡◌, ℕ, ◌+◌, ◌-◌, ◌<◌, ◌≤◌, ◌==◌, Bool, true, false, List, [], ◌∷◌, length, get_or, drop, sym, ap, ◌∙◌, add-one, le_refl, le-add_right, drop-cons, arith}
 use Rattle.std.specs.Prelude.{fold, if◌then◌else◌}
 use Rattle.block_machine.specs.declared.entry.Entry.{Entry}
 use Rattle.block_machine.specs.declared.entry.Entry.TheVariants.{Arrived, Ended, Aborted, Cut}
@@ -22,35 +22,30 @@ within_more m n t le fits = record {
   inside_or_cut = omega (arith, fits.inside_or_cut, le);
 }
 
+-- where each count is higher by one at most, so is the bound
+within_one : (n : ℕ) (t u : Tally) → u.commands ≤ t.commands + 1 → u.good ≤ t.good + 1 → u.check ≤ t.check + 1 → u.full ≤ t.full + 1
+    → u.aborted ≤ t.aborted + 1 → u.inside + u.cut ≤ t.inside + t.cut + 1 → IsWithin n t → IsWithin (n + 1) u
+within_one n t u commands good check full aborted inside_or_cut fits = record {
+  commands = omega (arith, commands, fits.commands);
+  good = omega (arith, good, fits.good);
+  check = omega (arith, check, fits.check);
+  full = omega (arith, full, fits.full);
+  aborted = omega (arith, aborted, fits.aborted);
+  inside_or_cut = omega (arith, inside_or_cut, fits.inside_or_cut);
+}
+
+same : {count : ℕ} → count ≤ count + 1
+same {count} = le-add_right count 1
+
+-- one command more ended
 within_end : (n status : ℕ) (t : Tally) → IsWithin n t → IsWithin (n + 1) (with_end status t)
 within_end n status t fits = by_tests (status == 0) (status == 2) (status == 40)
   where
     by_tests : (a b c : Bool) → IsWithin (n + 1) (if a then record t { good = t.good + 1 } else if b then record t { check = t.check + 1 } else if c then record t { full = t.full + 1 } else t)
-    by_tests true b c = record {
-      commands = omega (arith, fits.commands);
-      good = omega (arith, fits.good);
-      check = omega (arith, fits.check);
-      full = omega (arith, fits.full);
-      aborted = omega (arith, fits.aborted);
-      inside_or_cut = omega (arith, fits.inside_or_cut);
-    }
-    by_tests false true c = record {
-      commands = omega (arith, fits.commands);
-      good = omega (arith, fits.good);
-      check = omega (arith, fits.check);
-      full = omega (arith, fits.full);
-      aborted = omega (arith, fits.aborted);
-      inside_or_cut = omega (arith, fits.inside_or_cut);
-    }
-    by_tests false false true = record {
-      commands = omega (arith, fits.commands);
-      good = omega (arith, fits.good);
-      check = omega (arith, fits.check);
-      full = omega (arith, fits.full);
-      aborted = omega (arith, fits.aborted);
-      inside_or_cut = omega (arith, fits.inside_or_cut);
-    }
-    by_tests false false false = within_more n (n + 1) t (omega arith) fits
+    by_tests true b c = within_one n t _ same (le_refl _) same same same same fits
+    by_tests false true c = within_one n t _ same same (le_refl _) same same same fits
+    by_tests false false true = within_one n t _ same same same (le_refl _) same same fits
+    by_tests false false false = within_one n t _ same same same same same same fits
 
 -- one fewer in
 one_out : (n : ℕ) (t : Tally) → IsWithin n t → IsWithin n (record t { inside = t.inside - 1 })
@@ -65,31 +60,10 @@ one_out n t fits = record {
 
 -- one entry more
 pub within_after : (n : ℕ) (t : Tally) (e : Entry) → IsWithin n t → IsWithin (n + 1) (tally_after t e)
-within_after n t (Arrived c i tag a cdb sent) fits = record {
-  commands = omega (arith, fits.commands);
-  good = omega (arith, fits.good);
-  check = omega (arith, fits.check);
-  full = omega (arith, fits.full);
-  aborted = omega (arith, fits.aborted);
-  inside_or_cut = omega (arith, fits.inside_or_cut);
-}
+within_after n t (Arrived c i tag a cdb sent) fits = within_one n t _ (le_refl _) same same same same (omega arith) fits
 within_after n t (Ended c reply) fits = within_end n reply.status _ (one_out n t fits)
-within_after n t (Aborted c) fits = record {
-  commands = omega (arith, fits.commands);
-  good = omega (arith, fits.good);
-  check = omega (arith, fits.check);
-  full = omega (arith, fits.full);
-  aborted = omega (arith, fits.aborted);
-  inside_or_cut = omega (arith, fits.inside_or_cut);
-}
-within_after n t Cut fits = record {
-  commands = omega (arith, fits.commands);
-  good = omega (arith, fits.good);
-  check = omega (arith, fits.check);
-  full = omega (arith, fits.full);
-  aborted = omega (arith, fits.aborted);
-  inside_or_cut = omega (arith, fits.inside_or_cut);
-}
+within_after n t (Aborted c) fits = within_one n t _ same same same same (le_refl _) (omega arith) fits
+within_after n t Cut fits = within_one n t _ same same same same same (omega arith) fits
 within_after n t other fits = within_more n (n + 1) t (omega arith) fits
 
 -- entries more

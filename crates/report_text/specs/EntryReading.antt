@@ -1,5 +1,6 @@
 -- What the words of an entry are read as.
 use Rattle.std.specs.Prelude.{ℕ, if◌then◌else◌, Bool, List, [], ◌∷◌, codes, Option, Some, None, option_map}
+use Rattle.std.specs.Map.{lookup}
 use Rattle.std.specs.Str.{bytes_eq}
 use Rattle.disk_base.specs.Cdb.{is_command_block}
 use Rattle.disk_base.specs.declared.block.Value.{Value}
@@ -18,32 +19,24 @@ use Rattle.text_words.specs.Digits.{bytes_of, byte_of}
 use Rattle.text_words.specs.Data.{value_of}
 use Rattle.report_text.specs.declared.form.EntryForm.{EntryForm}
 use Rattle.report_text.specs.declared.form.EntryForm.TheVariants.{Arrived as In, Started as Start, Get as Got, Put as PutForm, Harden as Hard, Passed as Pass, GiveUp as Lose, Page as PageForm, Ended as End, Aborted as Gone, Asked as Func, Mode as ModeForm, Scanned as ScannedForm, Logged as LoggedForm, Cut as CutForm, PoweredOn as On, Tick as TickForm, Blank as BlankForm, Fresh as FreshForm}
-use Rattle.report_text.specs.Steps.{◌>>=◌, demand}
-use Rattle.report_text.specs.Fields.{number_of, command_of, block_of, tag_of, attribute_of, sent_of, page_of, sense_of}
+use Rattle.report_text.specs.Steps.{◌>>=◌, demand, of_none, of_one, of_three, of_two}
+use Rattle.report_text.specs.Fields.{number_of, command_of, lone_number, block_of, tag_of, attribute_of, sent_of, page_of, sense_of}
 use Rattle.report_text.specs.Findings.{finding_of}
+
+-- the words that entries begin with, and their forms
+abbrev pub entry_forms : List (List ℕ × EntryForm)
+entry_forms =
+    (codes "start", Start) ∷ (codes "get", Got) ∷ (codes "put", PutForm)
+    ∷ (codes "hard", Hard) ∷ (codes "end", End) ∷ (codes "in", In)
+    ∷ (codes "pass", Pass) ∷ (codes "lose", Lose) ∷ (codes "page", PageForm)
+    ∷ (codes "gone", Gone) ∷ (codes "func", Func) ∷ (codes "mode", ModeForm)
+    ∷ (codes "scanned", ScannedForm) ∷ (codes "logged", LoggedForm) ∷ (codes "cut", CutForm)
+    ∷ (codes "on", On) ∷ (codes "tick", TickForm) ∷ (codes "blank", BlankForm)
+    ∷ (codes "fresh", FreshForm) ∷ []
 
 -- the form of an entry, by its first word
 unfoldable pub entry_form : List ℕ → Option EntryForm
-entry_form first =
-    if bytes_eq first (codes "start") then Some Start else
-    if bytes_eq first (codes "get") then Some Got else
-    if bytes_eq first (codes "put") then Some PutForm else
-    if bytes_eq first (codes "hard") then Some Hard else
-    if bytes_eq first (codes "end") then Some End else
-    if bytes_eq first (codes "in") then Some In else
-    if bytes_eq first (codes "pass") then Some Pass else
-    if bytes_eq first (codes "lose") then Some Lose else
-    if bytes_eq first (codes "page") then Some PageForm else
-    if bytes_eq first (codes "gone") then Some Gone else
-    if bytes_eq first (codes "func") then Some Func else
-    if bytes_eq first (codes "mode") then Some ModeForm else
-    if bytes_eq first (codes "scanned") then Some ScannedForm else
-    if bytes_eq first (codes "logged") then Some LoggedForm else
-    if bytes_eq first (codes "cut") then Some CutForm else
-    if bytes_eq first (codes "on") then Some On else
-    if bytes_eq first (codes "tick") then Some TickForm else
-    if bytes_eq first (codes "blank") then Some BlankForm else
-    if bytes_eq first (codes "fresh") then Some FreshForm else None
+entry_form first = lookup (bytes_eq first) entry_forms
 
 -- `C I T A CDB DATA` behind `in`
 unfoldable pub arrived : List ℕ → List ℕ → List ℕ → List ℕ → List ℕ → List ℕ → Option Entry
@@ -60,19 +53,13 @@ abbrev pub arrived_words : List (List ℕ) → Option Entry
 arrived_words (c ∷ i ∷ t ∷ a ∷ cdb ∷ sent ∷ []) = arrived c i t a cdb sent
 arrived_words other = None
 
--- the number of a command alone
-abbrev pub lone_command : List (List ℕ) → Option ℕ
-lone_command (c ∷ []) = command_of c
-lone_command other = None
-
 -- `C B V` behind `get`
 abbrev pub get_words : List (List ℕ) → Option Entry
-get_words (c ∷ b ∷ v ∷ []) = do
+get_words = of_three (λ c b v. do
   command ← command_of c
   block ← block_of b
   value ← value_of v
-  Some (Get command block value)
-get_words other = None
+  Some (Get command block value))
 
 -- the data of a value
 abbrev pub data_in : Value → Option (List ℕ)
@@ -81,13 +68,12 @@ data_in Lost = None
 
 -- `C B V` behind `put`
 abbrev pub put_words : List (List ℕ) → Option Entry
-put_words (c ∷ b ∷ v ∷ []) = do
+put_words = of_three (λ c b v. do
   command ← command_of c
   block ← block_of b
   value ← value_of v
   bytes ← data_in value
-  Some (Put command block bytes)
-put_words other = None
+  Some (Put command block bytes))
 
 abbrev pub who_of : List ℕ → Option Who
 who_of word = if bytes_eq word (codes "d") then Some Drive else (do
@@ -96,35 +82,31 @@ who_of word = if bytes_eq word (codes "d") then Some Drive else (do
 
 -- `C B` or `d B` behind `hard`
 abbrev pub harden_words : List (List ℕ) → Option Entry
-harden_words (who ∷ b ∷ []) = do
+harden_words = of_two (λ who b. do
   by ← who_of who
   block ← block_of b
-  Some (Harden by block)
-harden_words other = None
+  Some (Harden by block))
 
 -- `C FROM TO` behind `pass`
 abbrev pub pass_words : List (List ℕ) → Option Entry
-pass_words (c ∷ from ∷ to ∷ []) = do
+pass_words = of_three (λ c from to. do
   command ← command_of c
   first ← block_of from
   end ← block_of to
-  Some (Passed command first end)
-pass_words other = None
+  Some (Passed command first end))
 
 -- `B` behind `lose`
 abbrev pub lose_words : List (List ℕ) → Option Entry
-lose_words (b ∷ []) = do
+lose_words = of_one (λ b. do
   block ← block_of b
-  Some (GiveUp block)
-lose_words other = None
+  Some (GiveUp block))
 
 -- `C HEX` behind `page`
 abbrev pub page_words : List (List ℕ) → Option Entry
-page_words (c ∷ word ∷ []) = do
+page_words = of_two (λ c word. do
   command ← command_of c
   bytes ← page_of word
-  Some (Page command bytes)
-page_words other = None
+  Some (Page command bytes))
 
 -- `C SS` or `C SS SENSE` behind `end`
 abbrev pub end_words : List (List ℕ) → Option Entry
@@ -173,19 +155,17 @@ seen_of word =
 
 -- `B` and a word behind `scanned`
 abbrev pub scanned_words : List (List ℕ) → Option Entry
-scanned_words (b ∷ what ∷ []) = do
+scanned_words = of_two (λ b what. do
   block ← block_of b
-  Some (Scanned block (seen_of what))
-scanned_words other = None
+  Some (Scanned block (seen_of what)))
 
 -- `STATUS B` behind `logged`
 abbrev pub logged_words : ℕ → List (List ℕ) → Option Entry
-logged_words minutes (status ∷ b ∷ []) = do
+logged_words minutes = of_two (λ status b. do
   number ← number_of 0 255 status
   block ← block_of b
   finding ← finding_of minutes number block
-  Some (Logged finding)
-logged_words minutes other = None
+  Some (Logged finding))
 
 -- what came of reading the map
 abbrev pub recovered_of : List ℕ → List ℕ → Option Recovered
@@ -202,27 +182,24 @@ recovered_of what n =
 
 -- a word and `N` behind `on`
 abbrev pub on_words : List (List ℕ) → Option Entry
-on_words (what ∷ n ∷ []) = do
+on_words = of_two (λ what n. do
   outcome ← recovered_of what n
-  Some (PoweredOn outcome)
-on_words other = None
+  Some (PoweredOn outcome))
 
 -- nothing behind `cut`
 abbrev pub cut_words : List (List ℕ) → Option Entry
-cut_words [] = Some Cut
-cut_words other = None
+cut_words = of_none Cut
 
 -- `N` behind `tick`
 abbrev pub tick_words : List (List ℕ) → Option Entry
-tick_words (n ∷ []) = do
+tick_words = of_one (λ n. do
   minutes ← number_of 0 65535 n
-  Some (Tick minutes)
-tick_words other = None
+  Some (Tick minutes))
 
 -- the entry of a form that the words behind the first give
 abbrev pub entry_of : ℕ → EntryForm → List (List ℕ) → Option Entry
 entry_of minutes In words = arrived_words words
-entry_of minutes Start words = option_map Started (lone_command words)
+entry_of minutes Start words = option_map Started (lone_number words)
 entry_of minutes Got words = get_words words
 entry_of minutes PutForm words = put_words words
 entry_of minutes Hard words = harden_words words
@@ -230,7 +207,7 @@ entry_of minutes Pass words = pass_words words
 entry_of minutes Lose words = lose_words words
 entry_of minutes PageForm words = page_words words
 entry_of minutes End words = end_words words
-entry_of minutes Gone words = option_map Aborted (lone_command words)
+entry_of minutes Gone words = option_map Aborted (lone_number words)
 entry_of minutes Func words = func_words words
 entry_of minutes ModeForm words = mode_words words
 entry_of minutes ScannedForm words = scanned_words words
@@ -238,8 +215,8 @@ entry_of minutes LoggedForm words = logged_words minutes words
 entry_of minutes CutForm words = cut_words words
 entry_of minutes On words = on_words words
 entry_of minutes TickForm words = tick_words words
-entry_of minutes BlankForm words = option_map Blank (lone_command words)
-entry_of minutes FreshForm words = option_map Fresh (lone_command words)
+entry_of minutes BlankForm words = option_map Blank (lone_number words)
+entry_of minutes FreshForm words = option_map Fresh (lone_number words)
 
 -- the entry that words give
 abbrev pub entry_from : ℕ → List (List ℕ) → Option Entry

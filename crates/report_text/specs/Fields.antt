@@ -18,7 +18,7 @@ use Rattle.platter_model.specs.declared.damage.Left.TheVariants.{Old, New, Nothi
 use Rattle.text_words.specs.Number.{number, number_in}
 use Rattle.text_words.specs.Digits.{bytes_of}
 use Rattle.text_words.specs.Data.{mark_of, data_of}
-use Rattle.report_text.specs.Steps.{◌>>=◌}
+use Rattle.report_text.specs.Steps.{◌>>=◌, of_one}
 
 -- the number from low to high that a word gives
 abbrev pub number_of : ℕ → ℕ → List ℕ → Option ℕ
@@ -27,6 +27,10 @@ number_of low high word = number_in (number low high word)
 -- the number of a command or of a move
 abbrev pub command_of : List ℕ → Option ℕ
 command_of word = number_of 0 4294967295 word
+
+-- the same of the only word
+abbrev pub lone_number : List (List ℕ) → Option ℕ
+lone_number = of_one command_of
 
 abbrev pub block_of : List ℕ → Option Lba
 block_of word = do

@@ -1,5 +1,6 @@
 -- What the words of a label are read as; of a world line those that some drive allows.
 use Rattle.std.specs.Prelude.{ℕ, ◌+◌, nat_le, if◌then◌else◌, List, [], ◌∷◌, codes, Option, Some, None}
+use Rattle.std.specs.Map.{lookup}
 use Rattle.std.specs.Str.{bytes_eq}
 use Rattle.platter_model.specs.declared.damage.Lasting.{Lasting}
 use Rattle.platter_model.specs.declared.damage.Lasting.TheVariants.{Hard, Soft, Plus, Minus}
@@ -10,22 +11,20 @@ use Rattle.block_machine.specs.declared.turn.Label.{Label}
 use Rattle.block_machine.specs.declared.turn.Label.TheVariants.{Arrive, Work, Job, Scan, Destage, World as Happens}
 use Rattle.report_text.specs.declared.form.LabelForm.{LabelForm}
 use Rattle.report_text.specs.declared.form.LabelForm.TheVariants.{Arrive as ArriveForm, Work as WorkForm, Job as JobForm, Scan as ScanForm, Destage as DestageForm, Damage as DamageForm, Fault as FaultForm, Cut as CutForm, Power as PowerForm, Minutes as MinutesForm}
-use Rattle.report_text.specs.Steps.{◌>>=◌, demand}
-use Rattle.report_text.specs.Fields.{number_of, command_of, sector_of, signed_of, left_of}
+use Rattle.report_text.specs.Steps.{◌>>=◌, demand, of_none, of_one}
+use Rattle.report_text.specs.Fields.{number_of, lone_number, sector_of, signed_of, left_of}
+
+-- the words that labels begin with, and their forms
+abbrev pub label_forms : List (List ℕ × LabelForm)
+label_forms =
+    (codes "work", WorkForm) ∷ (codes "arrive", ArriveForm) ∷ (codes "job", JobForm)
+    ∷ (codes "scan", ScanForm) ∷ (codes "destage", DestageForm) ∷ (codes "damage", DamageForm)
+    ∷ (codes "fault", FaultForm) ∷ (codes "cut", CutForm) ∷ (codes "power", PowerForm)
+    ∷ (codes "minutes", MinutesForm) ∷ []
 
 -- the form of a label, by its first word
 unfoldable pub label_form : List ℕ → Option LabelForm
-label_form first =
-    if bytes_eq first (codes "work") then Some WorkForm else
-    if bytes_eq first (codes "arrive") then Some ArriveForm else
-    if bytes_eq first (codes "job") then Some JobForm else
-    if bytes_eq first (codes "scan") then Some ScanForm else
-    if bytes_eq first (codes "destage") then Some DestageForm else
-    if bytes_eq first (codes "damage") then Some DamageForm else
-    if bytes_eq first (codes "fault") then Some FaultForm else
-    if bytes_eq first (codes "cut") then Some CutForm else
-    if bytes_eq first (codes "power") then Some PowerForm else
-    if bytes_eq first (codes "minutes") then Some MinutesForm else None
+label_form first = lookup (bytes_eq first) label_forms
 
 -- how long a damage lasts, by a word and the one behind it
 abbrev pub lasting_of : List ℕ → List ℕ → Option Lasting
@@ -61,10 +60,9 @@ damage_words other = None
 
 -- `P` behind `fault`
 abbrev pub fault_words : List (List ℕ) → Option Label
-fault_words (p ∷ []) = do
+fault_words = of_one (λ p. do
   place ← sector_of 16 4095 p
-  Some (Happens (Fault place))
-fault_words other = None
+  Some (Happens (Fault place)))
 
 -- `now`, or a word and `K LEFT SCAR`, behind `cut`
 abbrev pub cut_words : List (List ℕ) → Option Label
@@ -77,27 +75,15 @@ cut_words other = None
 
 -- `N` behind `minutes`
 abbrev pub minutes_words : List (List ℕ) → Option Label
-minutes_words (n ∷ []) = do
+minutes_words = of_one (λ n. do
   minutes ← number_of 0 65535 n
-  Some (Happens (Minutes minutes))
-minutes_words other = None
+  Some (Happens (Minutes minutes)))
 
 -- `I` behind `arrive`
 abbrev pub arrive_words : List (List ℕ) → Option Label
-arrive_words (i ∷ []) = do
+arrive_words = of_one (λ i. do
   initiator ← number_of 1 8 i
-  Some (Arrive initiator)
-arrive_words other = None
-
--- the number of a command or of a move alone
-abbrev pub lone_number : List (List ℕ) → Option ℕ
-lone_number (c ∷ []) = command_of c
-lone_number other = None
-
--- nothing behind the first word
-abbrev pub lone : Label → List (List ℕ) → Option Label
-lone label [] = Some label
-lone label other = None
+  Some (Arrive initiator))
 
 -- the label of a form that the words behind the first give
 abbrev pub label_by : LabelForm → List (List ℕ) → Option Label
@@ -108,12 +94,12 @@ label_by WorkForm words = do
 label_by JobForm words = do
   j ← lone_number words
   Some (Job j)
-label_by ScanForm words = lone Scan words
-label_by DestageForm words = lone Destage words
+label_by ScanForm words = of_none Scan words
+label_by DestageForm words = of_none Destage words
 label_by DamageForm words = damage_words words
 label_by FaultForm words = fault_words words
 label_by CutForm words = cut_words words
-label_by PowerForm words = lone (Happens Power) words
+label_by PowerForm words = of_none (Happens Power) words
 label_by MinutesForm words = minutes_words words
 
 -- the label that words give

@@ -3,13 +3,14 @@
 ghost use Rattle.std.specs.Prelude.{◌≡◌, ◌∷◌, [], option_map};
 ghost use Rattle.text_words.specs.Line.{texts_of};
 ghost use Rattle.report_text.specs.Answers.{Adds};
+ghost use Rattle.report_text.specs.Fields.{lone_number};
 ghost use Rattle.report_text.specs.Findings.{finding_of};
-ghost use Rattle.report_text.specs.EntryReading.{entry_form, arrived, arrived_words, lone_command, get_words, put_words, who_of, harden_words, pass_words, lose_words, page_words, end_words, function_of, func_words, flag_of, mode_words, seen_of, scanned_words, logged_words, recovered_of, on_words, cut_words, tick_words, entry_of, entry_from};
+ghost use Rattle.report_text.specs.EntryReading.{entry_form, arrived, arrived_words, get_words, put_words, who_of, harden_words, pass_words, lose_words, page_words, end_words, function_of, func_words, flag_of, mode_words, seen_of, scanned_words, logged_words, recovered_of, on_words, cut_words, tick_words, entry_of, entry_from};
 
 use crate::fault::LineFault;
 use crate::fields::{
-    attribute_of, block_of, byte_of, bytes_of, command_of, initiator_of, minutes_of, number_of,
-    page_of, sense_of, sent_of, tag_of,
+    attribute_of, block_of, byte_of, bytes_of, command_of, initiator_of, lone_number, minutes_of,
+    number_of, page_of, sense_of, sent_of, tag_of,
 };
 use crate::form::EntryForm;
 use block_machine::{Entries, Entry, Recovered, Seen, Who};
@@ -189,43 +190,34 @@ fn page_entry(alloc: Global, c: &[u8], word: &[u8], entries: &mut Entries) -> Re
     Ok(())
 }
 
-fn lone_command(words: &[&[u8]]) -> Option<u32>
-    ensures { result ≡ lone_command (texts_of words.now) }
-{
-    match words {
-        [c] => command_of(c),
-        _ => None,
-    }
-}
-
 fn started(words: &[&[u8]], entries: &mut Entries) -> Result<(), LineFault>
-    ensures { Adds entries.old entries.new result (option_map Entry.Started (lone_command (texts_of words.now))) }
+    ensures { Adds entries.old entries.new result (option_map Entry.Started (lone_number (texts_of words.now))) }
 {
-    let c = lone_command(words).ok_or(LineFault::Unreadable)?;
+    let c = lone_number(words).ok_or(LineFault::Unreadable)?;
     entries.push(Entry::Started { c })?;
     Ok(())
 }
 
 fn aborted(words: &[&[u8]], entries: &mut Entries) -> Result<(), LineFault>
-    ensures { Adds entries.old entries.new result (option_map Entry.Aborted (lone_command (texts_of words.now))) }
+    ensures { Adds entries.old entries.new result (option_map Entry.Aborted (lone_number (texts_of words.now))) }
 {
-    let c = lone_command(words).ok_or(LineFault::Unreadable)?;
+    let c = lone_number(words).ok_or(LineFault::Unreadable)?;
     entries.push(Entry::Aborted { c })?;
     Ok(())
 }
 
 fn blank(words: &[&[u8]], entries: &mut Entries) -> Result<(), LineFault>
-    ensures { Adds entries.old entries.new result (option_map Entry.Blank (lone_command (texts_of words.now))) }
+    ensures { Adds entries.old entries.new result (option_map Entry.Blank (lone_number (texts_of words.now))) }
 {
-    let c = lone_command(words).ok_or(LineFault::Unreadable)?;
+    let c = lone_number(words).ok_or(LineFault::Unreadable)?;
     entries.push(Entry::Blank { c })?;
     Ok(())
 }
 
 fn fresh(words: &[&[u8]], entries: &mut Entries) -> Result<(), LineFault>
-    ensures { Adds entries.old entries.new result (option_map Entry.Fresh (lone_command (texts_of words.now))) }
+    ensures { Adds entries.old entries.new result (option_map Entry.Fresh (lone_number (texts_of words.now))) }
 {
-    let c = lone_command(words).ok_or(LineFault::Unreadable)?;
+    let c = lone_number(words).ok_or(LineFault::Unreadable)?;
     entries.push(Entry::Fresh { c })?;
     Ok(())
 }

@@ -1,7 +1,8 @@
 //! The words of an entry, an operation or a label, read.
-ghost use Rattle.std.specs.Prelude.{◌≡◌, ◌≤◌, IfSome};
+ghost use Rattle.std.specs.Prelude.{◌≡◌, ◌≤◌, IfSome, IsOk, codes};
 ghost use Rattle.text_words.specs.Digits.{bytes_of};
-ghost use Rattle.report_text.specs.Fields.{number_of, command_of, block_of, sector_of, tag_of, signed_of, attribute_of, left_of, sent_of, page_of, sense_from, sense_of};
+ghost use Rattle.text_words.specs.Line.{texts_of};
+ghost use Rattle.report_text.specs.Fields.{number_of, command_of, lone_number, block_of, sector_of, tag_of, signed_of, attribute_of, left_of, sent_of, page_of, sense_from, sense_of};
 ghost use Rattle.report_text.specs.Answers.{Gives, line_fault_of};
 
 use crate::fault::LineFault;
@@ -24,6 +25,16 @@ pub fn command_of(word: &[u8]) -> Option<u32>
     ensures { result ≡ command_of word.now }
 {
     Some(number_of(0, u64::from(u32::MAX), word)? as u32)
+}
+
+/// The number of a command or of a move that the only word gives.
+pub fn lone_number(words: &[&[u8]]) -> Option<u32>
+    ensures { result ≡ lone_number (texts_of words.now) }
+{
+    match words {
+        [word] => command_of(word),
+        _ => None,
+    }
 }
 
 pub fn byte_of(word: &[u8]) -> Option<u8>
@@ -101,7 +112,9 @@ pub fn left_of(word: &[u8]) -> Left
 
 /// The data sent with a command.
 pub fn sent_of(alloc: Global, word: &[u8]) -> Result<DataOut, LineFault>
-    ensures { Gives result (sent_of word.now) }
+    ensures sent { Gives result (sent_of word.now) }
+    // No data take no memory.
+    ensures nothing { word.now ≡ codes "-" → IsOk result }
 {
     if word == b"-".as_slice() {
         return Ok(DataOut::Nothing);
@@ -124,7 +137,9 @@ fn fault_of(fault: DigitsFault) -> LineFault
 
 /// The data of a command.
 pub fn page_of(alloc: Global, word: &[u8]) -> Result<Bytes, LineFault>
-    ensures { Gives result (page_of word.now) }
+    ensures page { Gives result (page_of word.now) }
+    // No data take no memory.
+    ensures nothing { word.now ≡ codes "-" → IsOk result }
 {
     if word == b"-".as_slice() {
         return Ok(Bytes::new(alloc));

@@ -2,10 +2,11 @@
 //! of a world line are those that some drive allows.
 ghost use Rattle.std.specs.Prelude.{◌≡◌, ◌∷◌, []};
 ghost use Rattle.text_words.specs.Line.{texts_of};
-ghost use Rattle.report_text.specs.LabelReading.{label_form, lasting_of, effect_of, damage_of, damage_words, fault_words, cut_words, minutes_words, arrive_words, lone_number, lone, label_by, label_from};
+ghost use Rattle.report_text.specs.Steps.{of_none};
+ghost use Rattle.report_text.specs.LabelReading.{label_form, lasting_of, effect_of, damage_of, damage_words, fault_words, cut_words, minutes_words, arrive_words, label_by, label_from};
 
 use crate::fields::{
-    command_of, initiator_of, left_of, minutes_of, number_of, sector_of, signed_of,
+    initiator_of, left_of, lone_number, minutes_of, number_of, sector_of, signed_of,
 };
 use crate::form::LabelForm;
 use block_machine::Label;
@@ -86,19 +87,10 @@ fn label_by(form: LabelForm, words: &[&[u8]]) -> Option<Label>
 }
 
 fn lone(label: Label, words: &[&[u8]]) -> Option<Label>
-    ensures { result ≡ lone label (texts_of words.now) }
+    ensures { result ≡ of_none label (texts_of words.now) }
 {
     match words {
         [] => Some(label),
-        _ => None,
-    }
-}
-
-fn lone_number(words: &[&[u8]]) -> Option<u32>
-    ensures { result ≡ lone_number (texts_of words.now) }
-{
-    match words {
-        [c] => command_of(c),
         _ => None,
     }
 }

@@ -1,7 +1,8 @@
 //! Reading an operation. More is taken than what is printed, since the line that is read is compared with the print.
 ghost use Rattle.std.specs.Prelude.{◌≡◌, ◌∷◌, []};
 ghost use Rattle.text_words.specs.Line.{texts_of};
-ghost use Rattle.report_text.specs.OperationReading.{operation_form, lone, place_of, place_in, torn_words, fetched_words, tried_words, shown_by, shown_from};
+ghost use Rattle.report_text.specs.Steps.{of_none};
+ghost use Rattle.report_text.specs.OperationReading.{operation_form, place_of, place_in, torn_words, fetched_words, tried_words, shown_by, shown_from};
 
 use crate::fields::{byte_of, left_of, sector_of, signed_of};
 use crate::form::OperationForm;
@@ -72,7 +73,7 @@ fn shown_by(form: OperationForm, words: &[&[u8]]) -> Option<Shown>
 }
 
 fn lone(shown: Shown, words: &[&[u8]]) -> Option<Shown>
-    ensures { result ≡ lone shown (texts_of words.now) }
+    ensures { result ≡ of_none shown (texts_of words.now) }
 {
     match words {
         [] => Some(shown),
