@@ -1,21 +1,20 @@
 -- While commands are in, work on one of them may come.
-use Rattle.std.proofs.Common.{◌≡◌, ◌≢◌, ℕ, zero, suc, ◌+◌, ◌<◌, Bool, true, false, not, cond, eqb, ltb, List, [], ◌∷◌, length, get_or, Option, Some, None, IsSome, refl, sym, ap, ◌∙◌, subst, arith, filter, map}
+use Rattle.std.proofs.Common.{◌≡◌, ◌≢◌, ℕ, ◌<◌, Bool, true, false, not, cond, eqb, List, [], ◌∷◌, length, Option, Some, None, refl, sym, ap, ◌∙◌, arith, filter}
 use Rattle.std.specs.Prelude.{◌&&◌, ◌||◌, find}
 use Rattle.std.specs.Option.{option_map, option_map_or, option_and_then, is_some, is_none}
-use Rattle.std.proofs.lemmas.Bool.{cond-true, cond-false, eq-eqb, eqb-true, eqb-false, lt-ltb, and_parts, not-true}
+use Rattle.std.proofs.lemmas.Bool.{cond-true, cond-false, eqb-true, eqb-false, lt-ltb, and_parts, not-true}
 use Rattle.std.proofs.lemmas.List.{length-map}
 use Rattle.platter_model.specs.declared.op.Op.{Op}
 use Rattle.task_set.specs.declared.member.Member.{Member}
-use Rattle.task_set.specs.Members.{member_of, first_forbidding, blocker_of, IsIn, IsByAge, SomeCommandMayRun}
+use Rattle.task_set.specs.Members.{member_of, first_forbidding, IsByAge, SomeCommandMayRun}
+use Rattle.cdb_reader.specs.declared.plan.Reading as reading
 use Rattle.cdb_reader.specs.declared.plan.Plan.{Plan}
-use Rattle.cdb_reader.specs.declared.plan.Plan.TheVariants.{Ending, Unread, Answering, Changing, Reading, Writing, Syncing, Moving, Over}
+use Rattle.cdb_reader.specs.declared.plan.Plan.TheVariants.{Reading}
 use Rattle.command_engine.specs.declared.step.Step.{Step}
-use Rattle.command_engine.specs.declared.step.Step.TheVariants.{Trying, Hardening, Faulted}
 use Rattle.command_engine.specs.Course.{Course}
 use Rattle.block_machine.specs.Blocks.{Blocks}
 use Rattle.block_machine.specs.State.{owed_by}
 use Rattle.drive_core.specs.declared.accepted.Accepted.{Accepted}
-use Rattle.drive_core.specs.declared.answer.TurnAnswer.{TurnAnswer}
 use Rattle.drive_core.specs.declared.answer.TurnAnswer.TheVariants as answer
 use Rattle.drive_core.specs.declared.event.Holder.TheVariants as holder
 use Rattle.drive_core.specs.declared.answer.Pick.TheVariants.{Work}
@@ -24,32 +23,29 @@ use Rattle.drive_core.specs.Scene.{Scene}
 use Rattle.drive_core.specs.Evidence.{lba}
 use Rattle.drive_core.specs.Holds.{held_by_plan, held_block, holds, holder_besides, needed_by_plan, needed_block, IsApart}
 use Rattle.drive_core.specs.Accepting.{accepted_of}
-use Rattle.drive_core.specs.Commands.{View, view, IsAtBlock, IsStaged, IsCommand, IsUnderWay, IsWaiting, IsWorking}
+use Rattle.drive_core.specs.Commands.{View, view, IsAtBlock, IsStaged, IsUnderWay}
 use Rattle.drive_core.specs.Fits.{Fits}
-use Rattle.drive_core.specs.Able.{held_by_other, work_refused, is_able, able, nothing_waiting}
+use Rattle.drive_core.specs.Able.{held_by_other, work_refused, is_able}
 use Rattle.drive_core.specs.Progress.{SomebodyIsAble}
+use Rattle.drive_core.proofs.AtBlock.{at_block}
 use Rattle.drive_core.proofs.Walking.{member-number}
 
 -- a block that a plan holds is the one that it needs
-held_is_needed : (blocks : Blocks) (v : View) (plan : Plan) (step : Step) (b : ℕ) → IsAtBlock v plan step → held_by_plan v.window plan ≡ Some b
-    → needed_by_plan blocks plan ≡ Some b
-held_is_needed blocks v (Reading r) (Trying p) b at held =
-    ap (λ (t : Bool). cond t (Some r.at) None) (lt-ltb r.at r.end at.left)
-    ∙ by (not (eqb (length v.window) 0) || r.hardened) held
+held_by_read : (blocks : Blocks) (window : List Op) (r : reading.Reading) (b : ℕ) → r.at < r.end → held_by_plan window (Reading r) ≡ Some b
+    → needed_by_plan blocks (Reading r) ≡ Some b
+held_by_read blocks window r b left held =
+    ap (λ (t : Bool). cond t (Some r.at) None) (lt-ltb r.at r.end left)
+    ∙ by (not (eqb (length window) 0) || r.hardened) held
   where
     by : (t : Bool) → cond t (Some r.at) None ≡ Some b → Some r.at ≡ Some b
     by true is = is
     by false is = absurd (cc)
-held_is_needed blocks v (Writing w) step b at held = absurd (cc)
-held_is_needed blocks v (Syncing y) step b at held = absurd (cc)
-held_is_needed blocks v (Reading r) Hardening b at held = absurd at
-held_is_needed blocks v (Reading r) Faulted b at held = absurd at
-held_is_needed blocks v (Ending reply) step b at held = absurd at
-held_is_needed blocks v (Unread n) step b at held = absurd at
-held_is_needed blocks v (Answering bytes reply) step b at held = absurd at
-held_is_needed blocks v Changing step b at held = absurd at
-held_is_needed blocks v (Moving x) step b at held = absurd at
-held_is_needed blocks v Over step b at held = absurd at
+
+held_is_needed : (blocks : Blocks) (v : View) (plan : Plan) (step : Step) (b : ℕ) → IsAtBlock v plan step → held_by_plan v.window plan ≡ Some b
+    → needed_by_plan blocks plan ≡ Some b
+held_is_needed blocks v plan step b at held =
+    at_block v (λ plan step. held_by_plan v.window plan ≡ Some b → needed_by_plan blocks plan ≡ Some b)
+    (λ r p trying. held_by_read blocks v.window r b trying.left) (λ w p left none. absurd (cc)) (λ y p left none. absurd (cc)) plan step at held
 
 -- a command that holds a block was started, and needs it
 record Holds (s : Scene) (c b : ℕ) : Type 0 where

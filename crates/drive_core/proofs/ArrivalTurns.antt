@@ -1,24 +1,21 @@
 -- A turn in which a command arrives.
 use Rattle.std.proofs.Common.{◌≡◌, ◌≢◌, ℕ, ◌+◌, ◌≤◌, ◌<◌, Bool, true, false, not, cond, eqb, ltb, length, List, [], ◌∷◌, ◌++◌, Option, Some, None, refl, sym, ap, ◌∙◌, subst, arith, ⊎_elim}
-use Rattle.std.specs.Prelude.{◌&&◌, All, slice_index, IsTrue}
+use Rattle.std.specs.Prelude.{◌&&◌, All, slice_index}
 use Rattle.std.specs.Option.{option_and_then}
-use Rattle.std.specs.List.{find}
 use Rattle.std.proofs.lemmas.Bool.{cases_eq, eq-eqb, ne_eqb, le-ltb, lt-ltb}
-use Rattle.std.proofs.lemmas.List.Elements.{All-nil, All-head, All-tail, All-push, All-weaker}
+use Rattle.std.proofs.lemmas.List.Elements.{All-head, All-tail, All-push, All-weaker}
 use Rattle.disk_base.specs.At.{put_at}
-use Rattle.disk_base.specs.declared.address.Tag.{Tag}
 use Rattle.platter_model.specs.declared.op.Op.{Op}
-use Rattle.sense_data.specs.declared.reply.Reply.{Reply}
 use Rattle.task_set.specs.declared.member.Member.{Member}
 use Rattle.task_set.specs.Members.{member_of, without, with_arrived}
 use Rattle.sector_store.specs.State.{Contained}
 use Rattle.cdb_reader.specs.Read.{read_of}
 use Rattle.block_machine.specs.declared.entry.Entry.{Entry}
-use Rattle.block_machine.specs.declared.entry.Entry.TheVariants.{Arrived, Ended}
+use Rattle.block_machine.specs.declared.entry.Entry.TheVariants.{Ended}
 use Rattle.block_machine.specs.declared.turn.Label.TheVariants.{Arrive}
 use Rattle.block_machine.specs.State.{State, Duty, is_full, owed_by}
-use Rattle.block_machine.specs.Steps.{entry_after, set_after, task_arrived}
-use Rattle.block_machine.specs.Turns.{is_answered, task_set_full}
+use Rattle.block_machine.specs.Steps.{begun, entry_after, set_after, task_arrived}
+use Rattle.block_machine.specs.Turns.{entries_lawful, is_answered, task_set_full}
 use Rattle.block_machine.proofs.Booleans.{and_both}
 use Rattle.history_replay.specs.declared.known.Known.{Known}
 use Rattle.history_replay.specs.Arrival.{with_commands}
@@ -31,12 +28,11 @@ use Rattle.drive_core.specs.declared.event.Event.TheVariants as event
 use Rattle.drive_core.specs.declared.server.Server.{Server}
 use Rattle.drive_core.specs.declared.answer.Ended as told_end
 use Rattle.drive_core.specs.Scene.{Scene, capacity, scene_after}
-use Rattle.drive_core.specs.Evidence.{lba, Shows, IsEndShown}
+use Rattle.drive_core.specs.Evidence.{IsEndShown}
 use Rattle.drive_core.specs.Holds.{held_by_plan, held_block}
-use Rattle.drive_core.specs.GoodTurn.{GoodTurn, WritesBlockData}
 use Rattle.drive_core.specs.Accepting.{accepted_of}
 use Rattle.drive_core.specs.Arriving.{entry_of}
-use Rattle.drive_core.specs.Commands.{View, view, IsStaged, IsCommand, IsUnderWay}
+use Rattle.drive_core.specs.Commands.{View, view, IsStaged, IsUnderWay}
 use Rattle.drive_core.specs.Ending.{ended_by}
 use Rattle.drive_core.specs.Fits.{Fits, IsCached, KnowsHistory}
 use Rattle.drive_core.specs.Moves.{Moves, beat}
@@ -48,7 +44,7 @@ use Rattle.drive_core.proofs.Elsewhere.{IsAlike, held-alike, staged-alike, all_s
 use Rattle.drive_core.proofs.Apart.{held_out, apart_none}
 use Rattle.drive_core.proofs.Parts.{cached_got, quiet_got}
 use Rattle.drive_core.proofs.Fitting.{known-quiet}
-use Rattle.drive_core.proofs.Unmoved.{still_stands, has_same, none_added}
+use Rattle.drive_core.proofs.Unmoved.{still_stands, has_same, none_added, good_arrival}
 use Rattle.drive_core.proofs.Serves.{served_cdb}
 
 -- a number behind all that are in is in for none
@@ -78,6 +74,13 @@ module _ (s : Scene) (d e : Server) (x : Arriving) (c : ℕ) (fits : Fits s d) (
       (λ (own : q ≡ c). subst (λ (n : ℕ). length (put_at c [] s.windows n) ≤ 50) (sym own) (subst (λ (w : List Op). length w ≤ 50) (sym (put_at-own c [] s.windows)) (omega arith)))
       (λ (other : q ≡ c → ⊥). subst (λ (w : List Op). length w ≤ 50) (sym (put_at-other c q [] s.windows other)) (fits.windows q))
       (cases_eq q c)
+
+  -- it comes from the initiator of the turn and has the next number
+  numbered_and_answered : (rest : List Entry) → is_answered (is_full s.hist) c rest ≡ true
+      → entries_lawful (capacity s) (Arrive x.initiator) (begun s.hist (Arrive x.initiator)) (entry_of c x ∷ rest) ≡ true
+  numbered_and_answered rest answered =
+      and_both (eqb x.initiator x.initiator && eqb c (s.hist.arrived + 1)) (is_answered (is_full s.hist) c rest)
+      (and_both (eqb x.initiator x.initiator) (eqb c (s.hist.arrived + 1)) (eq-eqb x.initiator x.initiator refl) (eq-eqb c (s.hist.arrived + 1) c_is)) answered
 
   -- a command that comes while there is room
   pub enters : (a : Accepted) (entries : List Entry) → is_full s.hist ≡ false → is_served_cdb x.cdb ≡ true
@@ -130,20 +133,8 @@ module _ (s : Scene) (d e : Server) (x : Arriving) (c : ℕ) (fits : Fits s d) (
       let moves : M (entry_of c x ∷ []) = record {
         ops = [];
         added = none_added s d e fits store_is;
-        good = record {
-          tasks = and_both (eqb x.initiator x.initiator && eqb c (s.hist.arrived + 1)) (is_answered (is_full s.hist) c [])
-              (and_both (eqb x.initiator x.initiator) (eqb c (s.hist.arrived + 1)) (eq-eqb x.initiator x.initiator refl) (eq-eqb c (s.hist.arrived + 1) c_is))
-              (ap (λ (b : Bool). is_answered b c []) room);
-          blocks = λ none. refl;
-          shown = (tt, tt);
-          step = refl;
-          one_block = (lba 0, refl);
-          written = All-nil (WritesBlockData s.map);
-          own = tt;
-          window = windows;
-          held = λ q below about. tt;
-          stands = still_stands s d e fits store_is;
-        };
+        good = good_arrival s d e fits store_is x.initiator (entry_of c x ∷ []) (numbered_and_answered [] (ap (λ (b : Bool). is_answered b c []) room)) refl (tt, tt) refl
+            windows refl;
         fits = record {
           store = has_same s d e fits store_is t refl refl;
           cached = subst (λ (y : Contained). IsCached t y.cache) (sym store_is) (cached_got s t d.store.cache (quiet_got s t (entry_of c x ∷ []) refl refl refl refl refl refl) fits.cached);
@@ -193,20 +184,10 @@ module _ (s : Scene) (d e : Server) (x : Arriving) (c : ℕ) (fits : Fits s d) (
       let moves : M (entry_of c x ∷ Ended c task_set_full ∷ []) (Some (ended_by x.initiator x.tag 0x28)) = record {
         ops = [];
         added = none_added s d e fits store_is;
-        good = record {
-          tasks = and_both (eqb x.initiator x.initiator && eqb c (s.hist.arrived + 1)) (is_answered (is_full s.hist) c (Ended c task_set_full ∷ []))
-              (and_both (eqb x.initiator x.initiator) (eqb c (s.hist.arrived + 1)) (eq-eqb x.initiator x.initiator refl) (eq-eqb c (s.hist.arrived + 1) c_is))
-              (ap (λ (b : Bool). is_answered b c (Ended c task_set_full ∷ [])) full ∙ and_both (eqb c c) _ (eq-eqb c c refl) refl);
-          blocks = λ none. refl;
-          shown = (tt, (subst (λ o. IsEndShown s (beat (Arrive x.initiator) (entry_of c x ∷ Ended c task_set_full ∷ []) []) c o task_set_full) (sym owes) tt, tt));
-          step = refl;
-          one_block = (lba 0, refl);
-          written = All-nil (WritesBlockData s.map);
-          own = tt;
-          window = windows;
-          held = λ q below about. tt;
-          stands = still_stands s d e fits store_is;
-        };
+        good = good_arrival s d e fits store_is x.initiator (entry_of c x ∷ Ended c task_set_full ∷ [])
+            (numbered_and_answered (Ended c task_set_full ∷ [])
+            (ap (λ (b : Bool). is_answered b c (Ended c task_set_full ∷ [])) full ∙ and_both (eqb c c) _ (eq-eqb c c refl) refl)) refl
+            (tt, (subst (λ o. IsEndShown s (beat (Arrive x.initiator) (entry_of c x ∷ Ended c task_set_full ∷ []) []) c o task_set_full) (sym owes) tt, tt)) refl windows refl;
         fits = record {
           store = has_same s d e fits store_is t refl refl;
           cached = subst (λ (y : Contained). IsCached t y.cache) (sym store_is)

@@ -1,9 +1,9 @@
 -- A turn in which a task management function is asked for.
-use Rattle.std.proofs.Common.{◌≡◌, ◌⊎◌, inl, inr, ℕ, ◌+◌, ◌≤◌, Bool, true, false, not, cond, eqb, length, List, [], ◌∷◌, ◌++◌, map, filter, Option, Some, None, refl, sym, ap, ◌∙◌, subst, arith}
+use Rattle.std.proofs.Common.{◌≡◌, ◌⊎◌, inl, inr, ℕ, ◌≤◌, Bool, true, false, not, cond, eqb, length, List, [], ◌∷◌, ◌++◌, map, filter, Option, Some, None, refl, sym, ap, ◌∙◌, subst, arith}
 use Rattle.std.specs.Prelude.{All, fold}
 use Rattle.std.specs.Option.{is_some}
 use Rattle.std.proofs.lemmas.Bool.{eq-eqb}
-use Rattle.std.proofs.lemmas.List.Elements.{All-nil, All-filter}
+use Rattle.std.proofs.lemmas.List.Elements.{All-filter}
 use Rattle.disk_base.specs.declared.command.Function.{Function}
 use Rattle.disk_base.specs.declared.command.Function.TheVariants.{Abort, AbortSet, Clear, Reset}
 use Rattle.platter_model.specs.declared.op.Op.{Op}
@@ -29,14 +29,14 @@ use Rattle.drive_core.specs.Evidence.{lba}
 use Rattle.drive_core.specs.Holds.{held_block, IsApart}
 use Rattle.drive_core.specs.Accepting.{accepted_of}
 use Rattle.drive_core.specs.Commands.{view, IsStaged}
-use Rattle.drive_core.specs.GoodTurn.{IsStood, WritesBlockData}
+use Rattle.drive_core.specs.GoodTurn.{IsStood}
 use Rattle.drive_core.specs.Fits.{Fits, IsCached}
 use Rattle.drive_core.specs.Moves.{Moves, beat}
 use Rattle.drive_core.proofs.Keyed.{find-kept}
 use Rattle.drive_core.proofs.Elsewhere.{IsAlike, held-alike, staged-alike}
 use Rattle.drive_core.proofs.Apart.{held_out}
 use Rattle.drive_core.proofs.Parts.{cached_got, quiet_got}
-use Rattle.drive_core.proofs.Unmoved.{still_stands, has_same, none_added}
+use Rattle.drive_core.proofs.Unmoved.{good_arrival, still_stands, has_same, none_added}
 use Rattle.drive_core.proofs.Leaving.{leave_in_turn, left_or_same, state_left, windows_left, settings_left, recovered_left, all_aborted, blocks_allow, shown_left, on_none, none_told}
 
 -- the commands that a function of an initiator names
@@ -199,18 +199,9 @@ module _ (s : Scene) (d e : Server) (i : ℕ) (what : Function) (gone : List ℕ
   made = record {
     ops = [];
     added = none_added s d e fits asked.store;
-    good = record {
-      tasks = and_both (eqb i i) (are_aborted (numbers (filter (is_named (named_by i what)) s.hist.set)) (map Aborted gone)) (eq-eqb i i refl) ends_named;
-      blocks = λ none. blocks_allow (capacity s) s.hist.blocks gone;
-      shown = (tt, shown_left s (beat (Arrive i) entries []) (capacity s) i h gone);
-      step = refl;
-      one_block = (lba 0, on_none (lba 0) gone);
-      written = All-nil (WritesBlockData s.map);
-      own = tt;
-      window = windows;
-      held = λ q below about. tt;
-      stands = subst (λ bs. IsStood s.map (s.ops ++ []) bs) (sym blocks_are) (still_stands s d e fits asked.store);
-    };
+    good = good_arrival s d e fits asked.store i entries
+        (and_both (eqb i i) (are_aborted (numbers (filter (is_named (named_by i what)) s.hist.set)) (map Aborted gone)) (eq-eqb i i refl) ends_named)
+        (blocks_allow (capacity s) s.hist.blocks gone) (tt, shown_left s (beat (Arrive i) entries []) (capacity s) i h gone) (on_none (lba 0) gone) windows blocks_are;
     fits = after_it;
     counted = omega (arith, asked.arrived);
     ended = sym (none_told s gone);

@@ -1,69 +1,48 @@
 -- Half a turn of work closes: the command goes on or ends, and the parts of the drive move from one scene to the next.
-use Rattle.std.proofs.Common.{◌≡◌, ◌≢◌, ℕ, ◌+◌, ◌<◌, ◌≤◌, Bool, true, false, not, cond, eqb, ltb, List, [], ◌∷◌, ◌++◌, length, Option, Some, None, refl, sym, ap, ◌∙◌, subst, arith, ⊎_elim, ◌⊎◌, inl, inr, append-nil}
-use Rattle.std.specs.Prelude.{◌^◌, ◌&&◌, ◌||◌, slice_get, IsTrue, Result}
-use Rattle.std.specs.Option.{option_and_then, option_map_or, option_map, is_none, is_some}
-use Rattle.std.proofs.lemmas.Bool.{eq-eqb, ne_eqb, eqb-true, lt-ltb, ltb-true, ltb-false, or_right, cases_Bool, and_right}
-use Rattle.disk_base.specs.declared.address.Lba.{Lba}
-use Rattle.disk_base.specs.declared.block.Value.{Value}
-use Rattle.disk_base.specs.declared.block.Value.TheVariants.{Data, Lost}
-use Rattle.disk_base.specs.declared.payload.Payload.{Payload}
-use Rattle.disk_base.specs.declared.stage.Stage.{Stage}
-use Rattle.disk_base.specs.Payload.{value_for}
+use Rattle.std.proofs.Common.{◌≡◌, ℕ, ◌<◌, Bool, true, false, not, List, [], ◌∷◌, ◌++◌, Option, Some, None, refl, sym, ap, ◌∙◌, subst, arith}
+use Rattle.std.specs.Prelude.{◌^◌}
+use Rattle.std.specs.Option.{option_map_or}
+use Rattle.std.proofs.lemmas.Bool.{or_right}
 use Rattle.platter_model.specs.declared.op.Op.{Op}
-use Rattle.platter_model.specs.declared.damage.Arming.{Arming}
 use Rattle.disk_base.specs.declared.address.Psn.{Psn}
 use Rattle.platter_model.specs.Sector.{is_faulty}
-use Rattle.platter_model.specs.TrueLog.{is_off, strays}
-use Rattle.mode_pages.specs.declared.settings.Settings.{Settings}
-use Rattle.sense_data.specs.declared.sense.Sense.{Sense}
+use Rattle.platter_model.specs.TrueLog.{is_off}
 use Rattle.sense_data.specs.declared.reply.Reply.{Reply}
-use Rattle.geometry_map.specs.DefectMap.{DefectMap, place_of}
+use Rattle.geometry_map.specs.DefectMap.{DefectMap}
 use Rattle.task_set.specs.declared.member.Member.{Member}
 use Rattle.task_set.specs.Members.{member_of}
-use Rattle.read_recovery.specs.Stages.{Progress, begun, next_stage, answered, stages_of}
-use Rattle.write_cache.specs.Contents.{Contents, IsCache, newest, with_clean}
-use Rattle.write_cache.specs.Laws.{KeepsOthers}
-use Rattle.sector_store.specs.Shapes.{try_of}
-use Rattle.sector_store.specs.Stored.{stored, KeepsBlocks}
+use Rattle.sector_store.specs.Stored.{KeepsBlocks}
 use Rattle.sector_store.specs.Maps.{MayBeRecovered}
 use Rattle.sector_store.specs.State.{Contained, IsStore}
-use Rattle.cdb_reader.specs.Request.{Request}
 use Rattle.cdb_reader.specs.Replies.{good, is_recovered}
 use Rattle.cdb_reader.specs.declared.plan.Reading as reading
 use Rattle.cdb_reader.specs.declared.plan.Plan.{Plan}
 use Rattle.cdb_reader.specs.declared.plan.Plan.TheVariants.{Ending, Unread, Answering, Changing, Reading, Writing, Syncing, Moving, Over}
 use Rattle.cdb_reader.specs.declared.plan.Deed.TheVariants as deed
 use Rattle.cdb_reader.specs.Plan.{next, plan_after, is_over}
-use Rattle.command_engine.specs.declared.answer.Answer.{Answer}
-use Rattle.command_engine.specs.declared.answer.Answer.TheVariants.{Got, Missed}
 use Rattle.command_engine.specs.declared.step.Recovery.{Recovery}
-use Rattle.command_engine.specs.declared.step.Step.{Step}
-use Rattle.command_engine.specs.declared.step.Step.TheVariants.{Trying}
 use Rattle.command_engine.specs.Course.{Course}
-use Rattle.command_engine.specs.Ending.{ending_of, report_of, recovered_error, fault_at, stays_dirty}
+use Rattle.command_engine.specs.Ending.{ending_of, report_of, recovered_error, stays_dirty}
 use Rattle.command_engine.specs.Standing.{IsCourse}
-use Rattle.command_engine.specs.Answers.{after, with_page}
+use Rattle.command_engine.specs.Answers.{with_page}
 use Rattle.command_engine.specs.Laws.{EndsByThePlan}
 use Rattle.block_machine.specs.declared.entry.Entry.{Entry}
-use Rattle.block_machine.specs.declared.entry.Entry.TheVariants.{Get, Ended}
+use Rattle.block_machine.specs.declared.entry.Entry.TheVariants.{Ended}
 use Rattle.block_machine.specs.declared.turn.Label.TheVariants.{Work}
-use Rattle.block_machine.specs.Blocks.{is_dirty, may_get}
-use Rattle.block_machine.specs.State.{State, Duty, owed_by}
+use Rattle.block_machine.specs.State.{State, Duty}
 use Rattle.block_machine.specs.Entries.{ends_as_told, recovery_within}
 use Rattle.drive_core.specs.declared.accepted.Accepted.{Accepted}
 use Rattle.drive_core.specs.declared.server.Server.{Server}
 use Rattle.drive_core.specs.declared.answer.Ended as told_end
-use Rattle.drive_core.specs.Scene.{Scene, capacity}
-use Rattle.drive_core.specs.Holds.{holder_besides}
-use Rattle.drive_core.specs.Accepting.{accepted_of, Replaces}
-use Rattle.drive_core.specs.Evidence.{lba, IsEndShown}
+use Rattle.drive_core.specs.Scene.{Scene}
+use Rattle.drive_core.specs.Accepting.{Replaces}
 use Rattle.drive_core.specs.Ending.{ended_of_member, ended_in}
 use Rattle.drive_core.specs.GoodTurn.{GoodTurn}
-use Rattle.drive_core.specs.Commands.{view, IsWorking, IsOwnRecovery}
-use Rattle.drive_core.specs.Fits.{IsPresentMap, HasOps, IsCached, Fits}
+use Rattle.drive_core.specs.Commands.{IsOwnRecovery}
+use Rattle.drive_core.specs.Fits.{IsPresentMap, HasOps, Fits}
 use Rattle.drive_core.specs.Moves.{Moves, beat}
-use Rattle.drive_core.proofs.Halves.{Half, goes_on, ends}
-use Rattle.drive_core.proofs.Fitting.{after_half, after_end, fits_on, fits_end, IsLeft}
+use Rattle.drive_core.proofs.Halves.{Half}
+use Rattle.drive_core.proofs.Fitting.{after_half, after_end, IsLeft}
 
 -- a plan that a reply fulfils
 over_is : (o : Option Plan) → is_over (plan_after o []) ≡ true → o ≡ Some Over

@@ -1,13 +1,12 @@
 -- The data of READ DEFECT DATA have the form that a history asks for.
-use Rattle.std.proofs.Common.{◌≡◌, ℕ, zero, suc, ◌+◌, ◌*◌, ◌≤◌, ◌<◌, Bool, true, false, cond, List, [], ◌∷◌, ◌++◌, length, take, refl, sym, ap, ◌∙◌, subst, arith, length-append, length-take}
-use Rattle.std.specs.Prelude.{◌%◌, ◌==◌, ◌&&◌, if◌then◌else◌, min, nat_lt}
+use Rattle.std.proofs.Common.{◌≡◌, ℕ, zero, suc, ◌+◌, ◌*◌, ◌<◌, Bool, true, false, cond, List, [], ◌∷◌, ◌++◌, length, take, refl, ap, ◌∙◌, subst, arith, length-append, length-take}
+use Rattle.std.specs.Prelude.{◌%◌, ◌==◌, ◌&&◌, min, nat_lt}
 use Rattle.std.specs.List.{flat_map}
-use Rattle.std.specs.Int.{w16, from_be_bytes, to_be_bytes}
+use Rattle.std.specs.Int.{w16, from_be_bytes}
 use Rattle.std.proofs.lemmas.Bool.{eq-eqb, le-ltb}
 use Rattle.std.proofs.lemmas.Nat.{from_be_bytes-to_be_bytes_2}
 use Rattle.geometry_map.specs.declared.size.Size.{Size}
 use Rattle.geometry_map.specs.DefectMap.{DefectMap, IsValidMap}
-use Rattle.cdb_reader.specs.Fields.{two_bytes}
 use Rattle.defect_lists.specs.declared.reply.DefectRequest.{DefectRequest}
 use Rattle.defect_lists.specs.DefectData.{defect_data, asked_sectors, descriptor, ascending}
 use Rattle.defect_lists.proofs.Addresses.{asked_sectors-few}

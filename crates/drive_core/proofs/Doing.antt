@@ -1,8 +1,7 @@
 -- What a history comes to where a command hardens a block or passes over some.
-use Rattle.std.proofs.Common.{◌≡◌, ◌≢◌, ℕ, ◌<◌, Bool, true, false, cond, eqb, List, [], ◌∷◌, Option, Some, None, refl, sym, ap, ◌∙◌}
-use Rattle.std.specs.Prelude.{◌&&◌}
+use Rattle.std.proofs.Common.{◌≡◌, ℕ, true, eqb, Option, Some, None, refl, ap, ◌∙◌}
 use Rattle.std.specs.Option.{option_and_then, is_some}
-use Rattle.std.proofs.lemmas.Bool.{eq-eqb, ne_eqb}
+use Rattle.std.proofs.lemmas.Bool.{eq-eqb}
 use Rattle.disk_base.specs.declared.address.Lba.{Lba}
 use Rattle.task_set.specs.declared.member.Member.{Member}
 use Rattle.task_set.specs.Members.{member_of}
@@ -10,7 +9,6 @@ use Rattle.cdb_reader.specs.declared.plan.Plan.{Plan}
 use Rattle.cdb_reader.specs.declared.plan.Deed.{Deed}
 use Rattle.cdb_reader.specs.declared.plan.Deed.TheVariants as deed
 use Rattle.cdb_reader.specs.Plan.{next}
-use Rattle.block_machine.specs.declared.entry.Entry.{Entry}
 use Rattle.block_machine.specs.declared.entry.Entry.TheVariants.{Harden, Passed}
 use Rattle.block_machine.specs.declared.entry.Who.TheVariants.{Command}
 use Rattle.block_machine.specs.declared.turn.Label.TheVariants.{Work}
@@ -18,7 +16,7 @@ use Rattle.block_machine.specs.Blocks.{is_dirty}
 use Rattle.block_machine.specs.State.{State, Duty, owed_by}
 use Rattle.block_machine.specs.Steps.{begun, entry_after, with_owed}
 use Rattle.block_machine.specs.Deeds.{Done, owed_after}
-use Rattle.block_machine.specs.Entries.{entry_lawful, is_owed}
+use Rattle.block_machine.specs.Entries.{entry_lawful}
 use Rattle.block_machine.proofs.Booleans.{and_both}
 use Rattle.drive_core.proofs.Tables.{put_at-own, put_at-other}
 use Rattle.drive_core.proofs.Halves.{IsQuiet}

@@ -1,16 +1,13 @@
 -- A turn of a drive, from its refusal to the turn that it adds.
-use Rattle.std.proofs.Common.{◌≡◌, ℕ, ◌+◌, ◌-◌, ◌<◌, ◌≤◌, Bool, true, false, not, cond, leb, List, [], ◌∷◌, ◌++◌, length, Option, Some, None, refl, sym, ap, ◌∙◌, subst, arith}
-use Rattle.std.specs.Prelude.{MatchOption, ◌^◌, ◌&&◌, ◌||◌, nat_le, if◌then◌else◌}
+use Rattle.std.proofs.Common.{◌≡◌, ℕ, ◌<◌, Bool, true, false, cond, List, [], ◌∷◌, ◌++◌, length, Option, Some, None, refl, sym, ap, ◌∙◌, subst, arith}
+use Rattle.std.specs.Prelude.{MatchOption, ◌&&◌, ◌||◌, nat_le}
 use Rattle.std.specs.List.{list_any}
 use Rattle.std.specs.Option.{option_map_or}
-use Rattle.std.proofs.lemmas.Bool.{cond-true, cond-false, leb-false}
+use Rattle.std.proofs.lemmas.Bool.{leb-false}
 use Rattle.disk_base.specs.Along.{Along}
-use Rattle.platter_model.specs.declared.op.Op.{Op}
 use Rattle.platter_model.specs.TrueLog.{is_off}
 use Rattle.write_cache.specs.Contents.{Contents}
-use Rattle.task_set.specs.declared.member.Member.{Member}
 use Rattle.task_set.specs.Members.{member_of}
-use Rattle.geometry_map.specs.declared.size.Size.{Size}
 use Rattle.geometry_map.specs.DefectMap.{DefectMap}
 use Rattle.history_replay.specs.declared.known.Known.{Known}
 use Rattle.block_machine.specs.declared.entry.Entry.{Entry}
@@ -22,7 +19,6 @@ use Rattle.block_machine.specs.Steps.{entry_after, begun}
 use Rattle.drive_core.specs.declared.event.Event.{Event}
 use Rattle.drive_core.specs.declared.event.Event.TheVariants as event
 use Rattle.drive_core.specs.declared.answer.Pick.{Pick}
-use Rattle.drive_core.specs.declared.answer.Ended as ended
 use Rattle.drive_core.specs.declared.answer.TurnAnswer.{TurnAnswer}
 use Rattle.drive_core.specs.declared.answer.TurnAnswer.TheVariants as answer
 use Rattle.drive_core.specs.declared.accepted.Accepted.{Accepted}
@@ -36,11 +32,10 @@ use Rattle.drive_core.specs.Accepting.{accepted_of}
 use Rattle.drive_core.specs.Fits.{IsCached, KnowsHistory, Fits}
 use Rattle.drive_core.specs.Kept.{Kept}
 use Rattle.drive_core.specs.Moves.{Moves, IsSameServer, beat}
-use Rattle.drive_core.specs.Able.{refusal, refusal_on, refusal_of_work, work_refused, is_spent, needs_power, picked, nothing_waiting}
+use Rattle.drive_core.specs.Able.{refusal, refusal_on, work_refused, is_spent, needs_power, picked, nothing_waiting}
 use Rattle.drive_core.specs.Served.{IsServed}
 use Rattle.drive_core.specs.Serving.{MayServe, IsServedTurn}
 use Rattle.drive_core.specs.Turning.{AddsTurn, coming_after, is_scanned}
-use Rattle.drive_core.specs.Ending.{ended_in}
 use Rattle.drive_core.proofs.Pushes.{kept-push}
 
 -- room aside, the parts of a drive fit as before
@@ -118,6 +113,39 @@ may_serve d turns coming e kept served free =
   where
     few : (n : ℕ) → nat_le 4294967294 n ≡ false → n < 4294967294
     few n is = let less = leb-false 4294967294 n is in omega (arith)
+
+-- a drive after room was reserved for the turn of an event that isn't refused
+pub record IsReserved (now : Run) (e : Event) (d : Server) (turns : List Turn) (coming : ℕ) : Type 0 where
+  pub same : run_of d.store turns coming ≡ now
+  pub kept : Kept (run_of d.store turns coming) d
+  pub free : refusal now e ≡ None
+  pub may : MayServe (scene_of (run_of d.store turns coming)) d e
+
+pub reserved : (old new : Server) (turns given : List Turn) (coming : ℕ) (now : Run) (e : Event) (refused : Option TurnAnswer)
+    → Kept (run_of old.store turns coming) old → run_of old.store turns coming ≡ now → given ≡ turns → IsSameServer old new → IsServed now.size e
+    → refused ≡ refusal now e → refused ≡ None → IsReserved now e new given coming
+reserved old new turns given coming now e refused kept was is same served answered none =
+    let kept_on : Kept (run_of new.store given coming) new = kept-same old new turns given coming is same kept in
+    let same_run : run_of new.store given coming ≡ now = run-same old new turns given coming is same ∙ was in
+    let free : refusal now e ≡ None = sym answered ∙ none in
+    record {
+      same = same_run;
+      kept = kept_on;
+      free = free;
+      may = may_serve new given coming e kept_on (subst (λ (r : Run). IsServed r.size e) (sym same_run) served)
+          (subst (λ (r : Run). refusal r e ≡ None) (sym same_run) free);
+    }
+
+-- the turn of what was served
+abbrev pub turn_of : Served → ℕ → ℕ → List Entry → Turn
+turn_of made from to entries = record { label = made.label; ops_from = from; ops_to = to; entries = entries }
+
+pub served_turn : (now : Run) (e : Event) (d new : Server) (turns : List Turn) (coming : ℕ) (made : Served) (given entries : List Entry) → IsReserved now e d turns coming
+    → ((s : Scene) → MayServe s d e → IsServedTurn s e d new given made) → entries ≡ given
+    → IsServedTurn (scene_of (run_of d.store turns coming)) e d new entries made
+served_turn now e d new turns coming made given entries reserved serves is =
+    let s : Scene = scene_of (run_of d.store turns coming) in
+    subst (λ (es : List Entry). IsServedTurn (scene_of (run_of d.store turns coming)) e d new es made) (sym is) (serves s reserved.may)
 
 -- no entry of a good turn is one of the scan
 unseen : (s : Scene) (t : Beat) (h : State) (e : Entry) → Shows s t h e → is_scanned e ≡ false

@@ -1,15 +1,10 @@
 -- Other commands than the one that a turn is about stand as before.
-use Rattle.std.proofs.Common.{◌≡◌, ◌≢◌, ℕ, Bool, true, false, List, Option, Some, None, refl, sym, ap, ◌∙◌, subst, ⊎_elim}
+use Rattle.std.proofs.Common.{◌≡◌, ◌≢◌, ℕ, Bool, false, List, Option, Some, None, refl, sym, ap, ◌∙◌, subst, ⊎_elim}
 use Rattle.std.proofs.lemmas.Bool.{cases_eq}
 use Rattle.std.specs.Option.{option_map_or, option_and_then}
-use Rattle.platter_model.specs.declared.op.Op.{Op}
-use Rattle.mode_pages.specs.declared.settings.Settings.{Settings}
-use Rattle.geometry_map.specs.DefectMap.{DefectMap}
 use Rattle.task_set.specs.declared.member.Member.{Member}
 use Rattle.task_set.specs.Members.{member_of}
-use Rattle.command_engine.specs.declared.step.Recovery.{Recovery}
 use Rattle.block_machine.specs.Blocks.{is_dirty}
-use Rattle.block_machine.specs.State.{Duty, owed_by}
 use Rattle.drive_core.specs.declared.accepted.Accepted.{Accepted}
 use Rattle.drive_core.specs.Scene.{Scene}
 use Rattle.drive_core.specs.Holds.{held_by_plan, held_block}

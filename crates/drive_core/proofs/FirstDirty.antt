@@ -1,17 +1,16 @@
 -- The first dirty block of a range, by the cache and by the history.
-use Rattle.std.proofs.Common.{◌≡◌, ◌≢◌, ◌⊎◌, ℕ, zero, suc, ◌+◌, ◌<◌, ◌≤◌, Bool, true, false, not, cond, eqb, ltb, leb, List, [], ◌∷◌, length, Option, Some, None, IsSome, refl, sym, ap, ◌∙◌, subst, arith, add-one, ⊎_elim, inl, inr, get_or}
-use Rattle.std.specs.Prelude.{◌-◌, ◌&&◌, Contains, find, filter, All}
+use Rattle.std.proofs.Common.{◌≡◌, ◌≢◌, ◌⊎◌, ℕ, zero, suc, ◌+◌, ◌<◌, ◌≤◌, Bool, true, false, not, cond, eqb, List, [], ◌∷◌, length, Option, Some, None, IsSome, refl, sym, ap, ◌∙◌, subst, arith, ⊎_elim, inl, inr, get_or}
+use Rattle.std.specs.Prelude.{◌-◌, Contains, find, filter}
 use Rattle.std.specs.List.{list_all, range_with_len}
 use Rattle.std.specs.Map.{keys_of, lookup}
 use Rattle.std.specs.Option.{option_map, is_some}
 use Rattle.std.proofs.lemmas.Option.{slice_get-get_or}
-use Rattle.std.proofs.lemmas.Bool.{eq-eqb, ne_eqb, eqb-true, ltb-true, leb-true, lt-ltb, le-leb, cases_Bool, cases_eq}
+use Rattle.std.proofs.lemmas.Bool.{eq-eqb, ltb-true, leb-true, lt-ltb, le-leb, cases_eq}
 use Rattle.std.proofs.lemmas.List.Elements.{All-contains}
 use Rattle.disk_base.specs.declared.address.Lba.{Lba}
 use Rattle.disk_base.specs.declared.block.Value.{Value}
 use Rattle.disk_base.specs.declared.block.Value.TheVariants.{Data}
 use Rattle.write_cache.specs.Contents.{Contents, is_at, newest, is_within, dirty_within, IsLeast}
-use Rattle.block_machine.specs.declared.array.BlockState.{BlockState}
 use Rattle.block_machine.specs.Blocks.{Blocks, is_dirty, none_dirty}
 use Rattle.block_machine.specs.Blocks.{newest as newest_value}
 use Rattle.block_machine.proofs.Booleans.{and_both, both}

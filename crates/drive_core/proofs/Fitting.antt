@@ -1,6 +1,6 @@
 -- The parts of a drive fit again after a turn of work.
 use Rattle.std.proofs.Common.{◌≡◌, ◌≢◌, ℕ, ◌≤◌, List, [], ◌∷◌, ◌++◌, Option, Some, None, refl, sym, ap, ◌∙◌, subst}
-use Rattle.std.specs.Prelude.{fold, All}
+use Rattle.std.specs.Prelude.{All}
 use Rattle.std.proofs.lemmas.List.Sums.{fold_push}
 use Rattle.std.proofs.lemmas.List.Elements.{All-filter}
 use Rattle.platter_model.specs.declared.op.Op.{Op}
@@ -24,12 +24,12 @@ use Rattle.drive_core.specs.Holds.{held_by_plan, held_block}
 use Rattle.drive_core.specs.Accepting.{accepted_of, Replaces}
 use Rattle.drive_core.specs.Commands.{view, IsStaged}
 use Rattle.drive_core.specs.GoodTurn.{IsStood}
-use Rattle.drive_core.specs.Fits.{HasOps, IsCached, KnowsHistory, HasTasks, Fits}
+use Rattle.drive_core.specs.Fits.{HasOps, IsCached, KnowsHistory, Fits}
 use Rattle.drive_core.specs.Moves.{beat}
 use Rattle.drive_core.proofs.Tables.{put_at-other}
 use Rattle.drive_core.proofs.Keyed.{find-dropped_own, find-dropped_other}
 use Rattle.drive_core.proofs.Elsewhere.{IsAlike, held-alike, staged-alike, all_staged}
-use Rattle.drive_core.proofs.Halves.{Half, IsQuiet, windows_then}
+use Rattle.drive_core.proofs.Halves.{Half, windows_then}
 use Rattle.drive_core.proofs.Apart.{HoldsAlone, held_of, held_out, apart_on, apart_none}
 
 -- the scene after half a turn

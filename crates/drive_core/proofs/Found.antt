@@ -1,8 +1,8 @@
 -- A turn of taking a block's value, by what was sought and found.
-use Rattle.std.proofs.Common.{◌≡◌, ◌≢◌, ℕ, ◌+◌, ◌<◌, ◌≤◌, Bool, true, false, not, cond, eqb, ltb, List, [], ◌∷◌, ◌++◌, length, Option, Some, None, refl, sym, ap, ◌∙◌, subst, arith, ⊎_elim, ◌⊎◌, inl, inr, append-nil}
-use Rattle.std.specs.Prelude.{◌&&◌, slice_get, Contains}
+use Rattle.std.proofs.Common.{◌≡◌, ℕ, ◌<◌, Bool, true, false, not, cond, List, [], ◌++◌, length, Option, Some, None, refl, sym, ap, ◌∙◌, subst, arith, ⊎_elim, ◌⊎◌, inl, inr, append-nil}
+use Rattle.std.specs.Prelude.{◌&&◌, Contains}
 use Rattle.std.specs.List.{list_any}
-use Rattle.std.specs.Option.{option_and_then, option_map, is_none}
+use Rattle.std.specs.Option.{option_map, is_none}
 use Rattle.std.proofs.lemmas.Bool.{cases_Bool, true≢false}
 use Rattle.std.proofs.lemmas.List.Elements.{Contains-append_right}
 use Rattle.disk_base.specs.declared.address.Lba.{Lba}
@@ -14,54 +14,51 @@ use Rattle.disk_base.specs.declared.stage.Stage.{Stage}
 use Rattle.disk_base.specs.Payload.{value_for}
 use Rattle.platter_model.specs.declared.op.Op.{Op}
 use Rattle.platter_model.specs.declared.op.Op.TheVariants.{Tried}
-use Rattle.platter_model.specs.State.{State as Platter}
+use Rattle.platter_model.specs.State.{State as Platter, tried}
 use Rattle.platter_model.specs.Sector.{is_faulty}
 use Rattle.platter_model.specs.TrueLog.{is_off, strays}
 use Rattle.mode_pages.specs.declared.settings.Settings.{Settings}
 use Rattle.sense_data.specs.declared.reply.Reply.{Reply}
 use Rattle.geometry_map.specs.Size.{capacity_of}
-use Rattle.geometry_map.specs.DefectMap.{DefectMap, place_of, IsValidMap}
+use Rattle.geometry_map.specs.DefectMap.{DefectMap, place_of}
 use Rattle.task_set.specs.declared.member.Member.{Member}
 use Rattle.task_set.specs.Members.{member_of}
-use Rattle.read_recovery.specs.Stages.{Progress, begun, next_stage, answered, stages_of}
+use Rattle.read_recovery.specs.Stages.{Progress, next_stage, answered}
 use Rattle.write_cache.specs.Contents.{Contents, IsCache, newest, clean_data, after_look, with_clean}
 use Rattle.write_cache.specs.Laws.{KeepsOthers}
 use Rattle.sector_store.specs.Shapes.{try_of}
 use Rattle.sector_store.specs.Stored.{stored, KeepsBlocks}
-use Rattle.sector_store.specs.State.{Contained, tried}
+use Rattle.sector_store.specs.State.{Contained}
 use Rattle.cdb_reader.specs.declared.plan.Reading as reading
-use Rattle.cdb_reader.specs.declared.plan.Plan.{Plan}
 use Rattle.cdb_reader.specs.declared.plan.Plan.TheVariants.{Reading, Unread}
 use Rattle.command_engine.specs.declared.answer.Answer.{Answer}
 use Rattle.command_engine.specs.declared.answer.Answer.TheVariants.{Got, Missed}
 use Rattle.command_engine.specs.declared.step.Recovery.{Recovery}
-use Rattle.command_engine.specs.Course.{Course}
 use Rattle.command_engine.specs.Ending.{ending_of}
 use Rattle.command_engine.specs.Standing.{IsCourse}
 use Rattle.command_engine.specs.Answers.{after}
 use Rattle.command_engine.specs.Laws.{EndsByThePlan}
 use Rattle.block_machine.specs.declared.entry.Entry.{Entry}
 use Rattle.block_machine.specs.declared.turn.Label.TheVariants.{Work}
-use Rattle.block_machine.specs.Blocks.{is_dirty, may_get, same_value, allowed}
-use Rattle.block_machine.specs.Steps as steps
+use Rattle.block_machine.specs.Blocks.{is_dirty, same_value, allowed}
 use Rattle.drive_core.specs.declared.accepted.Accepted.{Accepted}
 use Rattle.drive_core.specs.declared.server.Server.{Server}
 use Rattle.drive_core.specs.declared.answer.Ended as told_end
 use Rattle.drive_core.specs.declared.taking.Sought.{Sought}
 use Rattle.drive_core.specs.Scene.{Scene, capacity, last_found, windows_with}
 use Rattle.drive_core.specs.Holds.{holder_besides}
-use Rattle.drive_core.specs.Evidence.{lba, IsKnown, IsGotShown, FoundByStages, FoundNowhere, may_use_cache}
+use Rattle.drive_core.specs.Evidence.{lba, FoundByStages, FoundNowhere, may_use_cache}
 use Rattle.drive_core.specs.Commands.{view, IsTrying, IsWorking}
 use Rattle.drive_core.specs.Fits.{IsPresentMap, IsClean, IsCached, Fits}
-use Rattle.drive_core.specs.Moves.{Moves, beat}
+use Rattle.drive_core.specs.Moves.{Moves}
 use Rattle.sector_store.specs.State.{try_answer}
 use Rattle.drive_core.specs.Taking.{answer_of, IsLooked, IsStageTried, IsSought, value_got, got_entries}
 use Rattle.drive_core.proofs.Tables.{put_at-own}
 use Rattle.drive_core.proofs.Gets.{may_get-newest, may_get-allowed, may_get-lost, dirty_by_newest, undirty_by_newest}
 use Rattle.drive_core.proofs.Tries.{tried_ops, last_found-try, found_value-here, failed-more, failed-all, next_stage-at, none_left, no_strays-before}
-use Rattle.drive_core.proofs.Parts.{IsGotOnly, cached_got, cached_keep, cached_look, is_off-try, faults-try}
+use Rattle.drive_core.proofs.Parts.{cached_got, cached_keep, cached_look, is_off-try, faults-try}
 use Rattle.drive_core.proofs.Closing.{Goes, Stops, has_ops}
-use Rattle.drive_core.proofs.GetTurns.{AreQuietAt, no_ops, try_ops, begun-owes}
+use Rattle.drive_core.proofs.GetTurns.{no_ops, try_ops, begun-owes}
 use Rattle.drive_core.proofs.ReadTurns.{course}
 use Rattle.drive_core.proofs.Taken.{IsReadTurn, got_data, got_lost, missed}
 

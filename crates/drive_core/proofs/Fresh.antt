@@ -1,8 +1,8 @@
 -- A drive from the factory: all its blocks are zeros, and its parts fit what a history begins with.
-use Rattle.std.proofs.Common.{◌≡◌, ◌⊎◌, ℕ, zero, suc, ◌+◌, ◌<◌, ◌≤◌, Bool, true, false, cond, eqb, List, [], ◌∷◌, ◌++◌, length, Option, Some, None, refl, sym, ap, ◌∙◌, subst, arith, map, ⊎_elim}
-use Rattle.std.specs.Prelude.{◌^◌, ◌==◌, ◌&&◌, ◌||◌, IsTrue, fold, replicate, if◌then◌else◌}
+use Rattle.std.proofs.Common.{◌≡◌, ℕ, zero, suc, ◌+◌, ◌<◌, ◌≤◌, Bool, true, false, eqb, List, [], ◌∷◌, ◌++◌, Option, Some, None, refl, sym, ap, ◌∙◌, subst, arith, map, ⊎_elim}
+use Rattle.std.specs.Prelude.{◌^◌, ◌||◌, IsTrue, fold, replicate, if◌then◌else◌}
 use Rattle.std.specs.List.{range_with_len, list_any}
-use Rattle.std.proofs.lemmas.Bool.{cond-true, cond-false, eq-eqb, eqb-true, eqb-false, cases_lt}
+use Rattle.std.proofs.lemmas.Bool.{cond-true, eq-eqb, eqb-true, eqb-false, cases_lt}
 use Rattle.std.proofs.lemmas.List.{map-append}
 use Rattle.std.proofs.lemmas.List.Elements.{All-nil}
 use Rattle.std.proofs.lemmas.List.Sums.{fold-append}
@@ -14,7 +14,7 @@ use Rattle.disk_base.specs.declared.payload.Payload.{Payload}
 use Rattle.platter_model.specs.declared.op.Op.{Op}
 use Rattle.platter_model.specs.declared.op.Op.TheVariants.{Wrote}
 use Rattle.platter_model.specs.Sector.{is_sector, meant_after, is_faulty}
-use Rattle.platter_model.specs.TrueLog.{supply_after, powered, is_unpowered, is_off}
+use Rattle.platter_model.specs.TrueLog.{supply_after, powered, is_unpowered}
 use Rattle.geometry_map.specs.declared.size.Size.{Size}
 use Rattle.geometry_map.specs.Size.{capacity_of}
 use Rattle.geometry_map.specs.Laws.{BlocksHaveOwnSectors}
@@ -35,7 +35,7 @@ use Rattle.drive_core.specs.Run.{run_of}
 use Rattle.drive_core.specs.Commands.{view, IsStaged}
 use Rattle.drive_core.specs.Accepting.{accepted_of}
 use Rattle.drive_core.specs.Starting.{KnowsStart}
-use Rattle.drive_core.specs.Fits.{Fits, IsPresentMap}
+use Rattle.drive_core.specs.Fits.{IsPresentMap}
 use Rattle.drive_core.specs.Kept.{Kept}
 use Rattle.drive_core.proofs.Gets.{same_value-own}
 

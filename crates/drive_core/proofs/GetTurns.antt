@@ -1,9 +1,9 @@
 -- A turn in which a read tries a block, or gets it.
-use Rattle.std.proofs.Common.{◌≡◌, ◌≢◌, ℕ, ◌+◌, ◌<◌, ◌≤◌, Bool, true, false, not, cond, eqb, ltb, List, [], ◌∷◌, ◌++◌, length, Option, Some, None, refl, sym, ap, ◌∙◌, subst, arith, ⊎_elim, inl, inr, append-nil}
-use Rattle.std.specs.Prelude.{◌&&◌, ◌||◌, slice_get, IsTrue, All}
+use Rattle.std.proofs.Common.{◌≡◌, ◌≢◌, ℕ, ◌<◌, Bool, true, false, eqb, ltb, List, [], ◌∷◌, ◌++◌, Option, Some, None, refl, sym, ap, ◌∙◌, subst, ⊎_elim, append-nil}
+use Rattle.std.specs.Prelude.{◌&&◌, ◌||◌, All}
 use Rattle.std.specs.List.{list_any}
-use Rattle.std.specs.Option.{option_and_then, option_map_or, is_some}
-use Rattle.std.proofs.lemmas.Bool.{eq-eqb, ne_eqb, eqb-true, lt-ltb, or_cases, cases_eq, true≢false}
+use Rattle.std.specs.Option.{option_and_then, is_some}
+use Rattle.std.proofs.lemmas.Bool.{eq-eqb, eqb-true, lt-ltb, or_cases, cases_eq, true≢false}
 use Rattle.std.proofs.lemmas.List.Elements.{All-nil, All-from_recursion}
 use Rattle.disk_base.specs.At.{put_at}
 use Rattle.disk_base.specs.declared.address.Lba.{Lba}
@@ -13,36 +13,31 @@ use Rattle.disk_base.specs.declared.block.Value.TheVariants.{Data, Lost}
 use Rattle.disk_base.specs.declared.payload.Payload.{Payload}
 use Rattle.disk_base.specs.declared.stage.Stage.{Stage}
 use Rattle.platter_model.specs.declared.op.Op.{Op}
-use Rattle.platter_model.specs.declared.op.Op.TheVariants.{Fetched, Tried}
-use Rattle.platter_model.specs.TrueLog.{attempt_of, strays}
-use Rattle.geometry_map.specs.Size.{capacity_of}
-use Rattle.geometry_map.specs.DefectMap.{DefectMap, place_of}
+use Rattle.platter_model.specs.TrueLog.{strays}
+use Rattle.geometry_map.specs.DefectMap.{place_of}
 use Rattle.task_set.specs.declared.member.Member.{Member}
 use Rattle.task_set.specs.Members.{member_of}
 use Rattle.sector_store.specs.Shapes.{try_of}
-use Rattle.sector_store.specs.Stored.{stored, KeepsBlocks, Stands}
-use Rattle.cdb_reader.specs.declared.plan.Reading as reading
+use Rattle.sector_store.specs.Stored.{stored, KeepsBlocks}
 use Rattle.cdb_reader.specs.declared.plan.Plan.{Plan}
-use Rattle.cdb_reader.specs.declared.plan.Plan.TheVariants.{Reading, Unread}
-use Rattle.cdb_reader.specs.declared.plan.Deed.{Deed}
 use Rattle.cdb_reader.specs.declared.plan.Deed.TheVariants as deed
-use Rattle.cdb_reader.specs.Plan.{next, when}
+use Rattle.cdb_reader.specs.Plan.{next}
 use Rattle.block_machine.specs.declared.entry.Entry.{Entry}
 use Rattle.block_machine.specs.declared.entry.Entry.TheVariants.{Get}
 use Rattle.block_machine.specs.declared.turn.Label.TheVariants.{Work}
-use Rattle.block_machine.specs.Blocks.{Blocks, is_dirty, after_get, may_get, allowed, same_value}
+use Rattle.block_machine.specs.Blocks.{is_dirty, after_get, may_get, allowed, same_value}
 use Rattle.block_machine.specs.State.{State, Duty, owed_by}
 use Rattle.block_machine.specs.Steps.{begun, entry_after}
 use Rattle.block_machine.proofs.Booleans.{and_both}
 use Rattle.command_engine.specs.declared.step.Recovery.{Recovery}
 use Rattle.drive_core.specs.Scene.{Scene, capacity, recovered_by, windows_with}
 use Rattle.drive_core.specs.Holds.{holder_besides}
-use Rattle.drive_core.specs.Evidence.{lba, IsGotShown}
-use Rattle.drive_core.specs.GoodTurn.{IsStood, IsAllowed, WritesBlockData, is_about, is_at_sector, is_one_step, is_on}
+use Rattle.drive_core.specs.Evidence.{IsGotShown}
+use Rattle.drive_core.specs.GoodTurn.{IsStood, IsAllowed, WritesBlockData, is_at_sector, is_one_step, is_on}
 use Rattle.drive_core.specs.Fits.{IsPresentMap}
 use Rattle.drive_core.specs.Moves.{beat}
 use Rattle.drive_core.proofs.Tables.{put_at-own, put_at-other}
-use Rattle.drive_core.proofs.Gets.{is_dirty-after_get, allowed-after_get, may_get-allowed}
+use Rattle.drive_core.proofs.Gets.{is_dirty-after_get, allowed-after_get}
 use Rattle.drive_core.proofs.Tries.{no_strays-before}
 use Rattle.drive_core.proofs.Halves.{Half}
 use Rattle.drive_core.proofs.Doing.{quiet-begun}

@@ -1,8 +1,8 @@
 -- Half a turn of work: after some entries the command owes a plan. Then it goes on, or ends.
-use Rattle.std.proofs.Common.{◌≡◌, ◌≢◌, ℕ, ◌+◌, ◌<◌, ◌≤◌, Bool, true, false, not, cond, eqb, List, [], ◌∷◌, ◌++◌, length, Option, Some, None, refl, sym, ap, ◌∙◌, subst, arith, length-append}
-use Rattle.std.specs.Prelude.{◌&&◌, ◌||◌, fold, IsTrue, All}
+use Rattle.std.proofs.Common.{◌≡◌, ◌≢◌, ℕ, ◌<◌, ◌≤◌, Bool, true, false, not, eqb, List, [], ◌∷◌, ◌++◌, length, Option, Some, None, refl, sym, ap, ◌∙◌, subst, arith, length-append}
+use Rattle.std.specs.Prelude.{◌&&◌, ◌||◌, fold, All}
 use Rattle.std.specs.List.{list_any, list_all}
-use Rattle.std.specs.Option.{option_and_then, option_map, is_some}
+use Rattle.std.specs.Option.{option_and_then, is_some}
 use Rattle.std.proofs.lemmas.Bool.{eq-eqb, ne_eqb, or_right}
 use Rattle.std.proofs.lemmas.List.{append-nil}
 use Rattle.std.proofs.lemmas.List.Sums.{fold_push}
@@ -21,7 +21,7 @@ use Rattle.block_machine.specs.declared.entry.Entry.{Entry}
 use Rattle.block_machine.specs.declared.entry.Entry.TheVariants.{Ended}
 use Rattle.block_machine.specs.declared.turn.Label.TheVariants.{Work}
 use Rattle.block_machine.specs.Blocks.{is_dirty, blocks_after, block_lawful}
-use Rattle.block_machine.specs.State.{State, Duty, owed_by}
+use Rattle.block_machine.specs.State.{State, owed_by}
 use Rattle.block_machine.specs.Steps.{begun, entry_after, entries_after}
 use Rattle.block_machine.specs.Deeds.{names_dirty}
 use Rattle.block_machine.specs.Entries.{entry_lawful, ends_as_told}
@@ -33,14 +33,13 @@ use Rattle.drive_core.specs.declared.server.Server.{Server}
 use Rattle.drive_core.specs.Scene.{Scene, capacity, scene_after, settings_by, recovered_by, windows_with}
 use Rattle.drive_core.specs.Holds.{held_block, holder_besides}
 use Rattle.drive_core.specs.Evidence.{Shows, IsEndShown}
-use Rattle.drive_core.specs.GoodTurn.{GoodTurn, IsStood, IsOnOneBlock, WritesBlockData, is_entry_of, are_on, is_on, is_about, is_at_sector, is_one_step}
+use Rattle.drive_core.specs.GoodTurn.{GoodTurn, IsStood, WritesBlockData, is_entry_of, are_on, is_on, is_about, is_at_sector, is_one_step}
 use Rattle.drive_core.specs.Accepting.{accepted_of}
 use Rattle.drive_core.specs.Commands.{view}
 use Rattle.drive_core.specs.Fits.{Fits}
 use Rattle.drive_core.specs.Moves.{beat}
-use Rattle.drive_core.proofs.Tables.{Along-push, put_at-other}
-use Rattle.drive_core.proofs.Keyed.{find-dropped_own, find-dropped_other}
-use Rattle.drive_core.proofs.Elsewhere.{IsAlike}
+use Rattle.drive_core.proofs.Tables.{Along-push}
+use Rattle.drive_core.proofs.Keyed.{find-dropped_own}
 use Rattle.drive_core.proofs.Windows.{window_in, windows_work}
 
 -- a state differs from another in blocks and in one command's duty alone

@@ -1,9 +1,5 @@
 -- A turn that hardens a block moves the parts of a drive.
-use Rattle.std.proofs.Common.{◌≡◌, ◌≢◌, ℕ, ◌+◌, ◌<◌, ◌≤◌, ◌^◌, Bool, true, false, not, cond, eqb, ltb, List, [], ◌∷◌, ◌++◌, length, Option, Some, None, refl, sym, ap, ◌∙◌, subst, arith}
-use Rattle.std.specs.Prelude.{◌&&◌, ◌||◌, fold}
-use Rattle.std.specs.List.{list_any}
-use Rattle.std.specs.Option.{option_and_then, option_map_or}
-use Rattle.std.proofs.lemmas.Bool.{eq-eqb, lt-ltb, or_right}
+use Rattle.std.proofs.Common.{◌≡◌, ℕ, ◌<◌, ◌^◌, true, false, List, [], ◌∷◌, ◌++◌, Option, Some, None, refl, sym, ap, ◌∙◌, subst}
 use Rattle.std.proofs.lemmas.List.Sums.{fold-append}
 use Rattle.disk_base.specs.declared.address.Lba.{Lba}
 use Rattle.disk_base.specs.declared.address.Psn.{Psn}
@@ -15,10 +11,9 @@ use Rattle.platter_model.specs.Sector.{is_faulty, faulty_after}
 use Rattle.platter_model.specs.State as platter
 use Rattle.platter_model.specs.TrueLog.{is_off, is_unpowered, supply_after, powered, strays}
 use Rattle.geometry_map.specs.DefectMap.{DefectMap}
-use Rattle.sector_store.specs.State.{Contained, placed}
+use Rattle.sector_store.specs.State.{placed}
 use Rattle.sector_store.specs.Stored.{stored}
 use Rattle.sense_data.specs.declared.reply.Reply.{Reply}
-use Rattle.task_set.specs.declared.member.Member.{Member}
 use Rattle.task_set.specs.Members.{member_of}
 use Rattle.write_cache.specs.Contents.{newest}
 use Rattle.cdb_reader.specs.declared.plan.Plan.{Plan}
@@ -28,7 +23,7 @@ use Rattle.cdb_reader.specs.Plan.{next}
 use Rattle.block_machine.specs.declared.entry.Entry.{Entry}
 use Rattle.block_machine.specs.declared.entry.Entry.TheVariants.{Ended}
 use Rattle.block_machine.specs.declared.turn.Label.TheVariants.{Work}
-use Rattle.block_machine.specs.Blocks.{Blocks, is_dirty, without_address}
+use Rattle.block_machine.specs.Blocks.{Blocks, without_address}
 use Rattle.block_machine.specs.State.{State}
 use Rattle.block_machine.specs.Steps.{entry_after}
 use Rattle.block_machine.specs.Deeds.{names_dirty}

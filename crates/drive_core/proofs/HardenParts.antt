@@ -1,12 +1,10 @@
 -- The parts of a drive after a block was hardened.
-use Rattle.std.proofs.Common.{◌≡◌, ◌≢◌, ◌⊎◌, ℕ, ◌<◌, Bool, true, false, not, cond, eqb, List, [], ◌∷◌, ◌++◌, Option, Some, None, refl, sym, ap, ◌∙◌, subst, ⊎_elim, inl, inr}
+use Rattle.std.proofs.Common.{◌≡◌, ◌≢◌, ◌⊎◌, ℕ, ◌<◌, Bool, true, false, not, cond, eqb, List, [], ◌∷◌, ◌++◌, Some, None, refl, sym, ap, ◌∙◌, subst, ⊎_elim, inl, inr}
 use Rattle.std.specs.Prelude.{map, filter}
 use Rattle.std.specs.Map.{keys_of, lookup, remove_entry}
 use Rattle.std.specs.Option.{option_map}
 use Rattle.std.proofs.lemmas.Bool.{cases_eq, eqb-true, eq-eqb, ne_eqb}
-use Rattle.std.proofs.lemmas.List.Sums.{fold-append}
 use Rattle.disk_base.specs.declared.address.Lba.{Lba}
-use Rattle.disk_base.specs.declared.address.Psn.{Psn}
 use Rattle.disk_base.specs.declared.block.Value.{Value}
 use Rattle.disk_base.specs.declared.block.Value.TheVariants.{Data}
 use Rattle.platter_model.specs.declared.op.Op.{Op}
@@ -14,8 +12,7 @@ use Rattle.platter_model.specs.TrueLog.{strays}
 use Rattle.geometry_map.specs.DefectMap.{DefectMap}
 use Rattle.geometry_map.specs.Size.{capacity_of}
 use Rattle.sector_store.specs.Stored.{stored}
-use Rattle.write_cache.specs.Contents.{Contents, is_at, newest, clean_data}
-use Rattle.block_machine.specs.declared.array.BlockState.{BlockState}
+use Rattle.write_cache.specs.Contents.{Contents, is_at, newest}
 use Rattle.block_machine.specs.declared.entry.Entry.{Entry}
 use Rattle.block_machine.specs.Blocks.{is_dirty, after_harden, hardened_with, without_address}
 use Rattle.block_machine.specs.Blocks as blocks
@@ -25,7 +22,6 @@ use Rattle.drive_core.specs.Evidence.{IsKnown}
 use Rattle.drive_core.specs.Fits.{IsClean, IsCached}
 use Rattle.drive_core.specs.Hardening.{Settles}
 use Rattle.drive_core.proofs.Parts.{known-more}
-use Rattle.drive_core.proofs.Settling.{same_address}
 
 -- a scene after another in which a block came to the medium with these data
 pub record IsAfterHarden (s t : Scene) (b : Lba) (bytes : List ℕ) : Type 0 where

@@ -1,12 +1,11 @@
 -- Half a turn in which a command hardens a block.
-use Rattle.std.proofs.Common.{◌≡◌, ◌≢◌, ◌⊎◌, ℕ, ◌+◌, ◌<◌, ◌≤◌, Bool, true, false, not, cond, eqb, List, [], ◌∷◌, ◌++◌, length, Option, Some, None, refl, sym, ap, ◌∙◌, subst, arith, ⊎_elim}
-use Rattle.std.specs.Prelude.{◌&&◌, ◌||◌, ◌-◌, ◌==◌, slice_get, IsTrue, find, nat_lt, if◌then◌else◌}
-use Rattle.std.specs.List.{list_any, list_all}
+use Rattle.std.proofs.Common.{◌≡◌, ◌≢◌, ℕ, ◌<◌, Bool, true, false, not, cond, eqb, List, [], ◌∷◌, ◌++◌, length, Option, Some, None, refl, sym, ap, ◌∙◌, subst, arith, ⊎_elim}
+use Rattle.std.specs.Prelude.{◌&&◌, ◌||◌, ◌-◌, ◌==◌, slice_get, IsTrue, find, if◌then◌else◌}
+use Rattle.std.specs.List.{list_any}
 use Rattle.std.specs.Option.{option_and_then, option_map, option_map_or}
 use Rattle.std.proofs.lemmas.Bool.{eq-eqb, ne_eqb, eqb-true, cases_eq, lt-ltb}
 use Rattle.std.proofs.lemmas.Slice.Eq.{bytes_eq-Decides}
 use Rattle.std.proofs.lemmas.List.Elements.{All-from_recursion}
-use Rattle.disk_base.specs.Along.{Along}
 use Rattle.disk_base.specs.At.{put_at}
 use Rattle.disk_base.specs.declared.address.Lba.{Lba}
 use Rattle.disk_base.specs.declared.address.Psn.{Psn}
@@ -15,10 +14,9 @@ use Rattle.disk_base.specs.declared.block.Value.TheVariants.{Data, Lost}
 use Rattle.disk_base.specs.Payload.{value_for}
 use Rattle.platter_model.specs.declared.op.Op.{Op}
 use Rattle.platter_model.specs.declared.op.Op.TheVariants.{Wrote}
-use Rattle.platter_model.specs.TrueLog.{strays, is_stray}
+use Rattle.platter_model.specs.TrueLog.{strays}
 use Rattle.platter_model.proofs.Logs.{strays-push}
 use Rattle.geometry_map.specs.DefectMap.{DefectMap, place_of}
-use Rattle.geometry_map.specs.Size.{capacity_of}
 use Rattle.sector_store.specs.Maps.{MayBeRecovered}
 use Rattle.sector_store.specs.Stored.{stored, StoresAt, KeepsOthers}
 use Rattle.sector_store.specs.State.{placed}
@@ -29,8 +27,7 @@ use Rattle.cdb_reader.specs.declared.plan.Plan.{Plan}
 use Rattle.cdb_reader.specs.declared.plan.Deed.TheVariants as deed
 use Rattle.cdb_reader.specs.Plan.{next}
 use Rattle.block_machine.specs.declared.array.BlockState.{BlockState}
-use Rattle.block_machine.specs.declared.entry.Entry.{Entry}
-use Rattle.block_machine.specs.declared.entry.Entry.TheVariants.{Harden, Passed}
+use Rattle.block_machine.specs.declared.entry.Entry.TheVariants.{Harden}
 use Rattle.block_machine.specs.declared.entry.Who.TheVariants.{Command}
 use Rattle.block_machine.specs.declared.turn.Label.TheVariants.{Work}
 use Rattle.block_machine.specs.Blocks.{Blocks, is_dirty, newest, allowed, same_value, after_harden, hardened_with}
@@ -39,9 +36,7 @@ use Rattle.block_machine.specs.Steps.{begun, entry_after}
 use Rattle.block_machine.proofs.Booleans.{and_both}
 use Rattle.drive_core.specs.Scene.{Scene, capacity}
 use Rattle.drive_core.specs.Holds.{held_block, held_by_plan, holder_besides, holds}
-use Rattle.drive_core.specs.Evidence.{Shows}
-use Rattle.drive_core.specs.GoodTurn.{IsAllowed, IsStood, is_about, is_on, is_at_sector, WritesBlockData}
-use Rattle.drive_core.specs.Moves.{beat}
+use Rattle.drive_core.specs.GoodTurn.{IsStood, WritesBlockData}
 use Rattle.drive_core.proofs.Tables.{put_at-own, put_at-other}
 use Rattle.drive_core.proofs.Halves.{Half}
 use Rattle.drive_core.proofs.Doing.{quiet-begun, owed-begun, quiet-trans, hardened_owes, hardened_quiet, hardened_lawful}

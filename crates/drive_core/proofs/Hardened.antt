@@ -1,11 +1,11 @@
 -- A command that meets a block dirty can be told that it was hardened.
-use Rattle.std.proofs.Common.{◌≡◌, ℕ, ◌+◌, ◌<◌, ◌≤◌, Bool, true, false, not, cond, eqb, ltb, leb, List, Option, Some, None, refl, sym, ap, ◌∙◌, subst, arith}
-use Rattle.std.specs.Prelude.{◌&&◌, IsTrue, IsSomeAnd}
+use Rattle.std.proofs.Common.{◌≡◌, ℕ, ◌<◌, ◌≤◌, Bool, true, false, not, cond, ltb, List, Option, Some, None, refl, sym, ap, ◌∙◌, subst}
+use Rattle.std.specs.Prelude.{IsTrue, IsSomeAnd}
 use Rattle.std.specs.Option.{option_and_then}
 use Rattle.disk_base.specs.declared.address.Lba.{Lba}
 use Rattle.disk_base.specs.declared.stage.Stage.{Stage}
 use Rattle.mode_pages.specs.declared.settings.Settings.{Settings}
-use Rattle.read_recovery.specs.Stages.{Progress, begun, next_stage}
+use Rattle.read_recovery.specs.Stages.{Progress, next_stage}
 use Rattle.cdb_reader.specs.declared.plan.Reading as reading
 use Rattle.cdb_reader.specs.declared.plan.Syncing as syncing
 use Rattle.cdb_reader.specs.declared.plan.Writing as writing
@@ -21,11 +21,10 @@ use Rattle.command_engine.specs.declared.step.Recovery.{Recovery}
 use Rattle.command_engine.specs.Course.{Course}
 use Rattle.command_engine.specs.declared.need.Need.{Need}
 use Rattle.command_engine.specs.declared.answer.Answer.{Answer}
-use Rattle.command_engine.specs.Need.{need_of, need_by, taking, need_at_write}
-use Rattle.command_engine.specs.Answers.{fits, fits_need, after, is_hardened, owed_after, step_after}
+use Rattle.command_engine.specs.Need.{need_by, taking, need_at_write}
+use Rattle.command_engine.specs.Answers.{fits, fits_need, after, is_hardened}
 use Rattle.drive_core.specs.Accepting.{accepted_of, under_way, Replaces}
 use Rattle.drive_core.specs.declared.accepted.Accepted.{Accepted}
-use Rattle.drive_core.specs.Hardening.{hardened_at}
 
 -- what it may harden: the next block of a read that goes through, or a block of a sync's range
 pub data IsMet (b : Lba) : Plan → Step → Type 0 where

@@ -1,8 +1,8 @@
 -- A turn in which a command hardens the dirty block that it needs.
-use Rattle.std.proofs.Common.{◌≡◌, ◌≢◌, ◌⊎◌, ℕ, ◌+◌, ◌<◌, ◌≤◌, Bool, true, false, not, cond, eqb, ltb, List, [], ◌∷◌, ◌++◌, Option, Some, None, IsSome, refl, sym, ap, ◌∙◌, subst, arith, ⊎_elim}
-use Rattle.std.specs.Prelude.{◌&&◌, IsTrue}
+use Rattle.std.proofs.Common.{◌≡◌, ℕ, ◌<◌, ◌≤◌, Bool, true, false, cond, ltb, List, [], ◌∷◌, ◌++◌, Option, Some, None, IsSome, refl, sym, ap, ◌∙◌, subst, arith, ⊎_elim}
+use Rattle.std.specs.Prelude.{IsTrue}
 use Rattle.std.specs.Option.{option_map, option_and_then}
-use Rattle.std.proofs.lemmas.Bool.{lt-ltb, ltb-true, ltb-false, cases_Bool, eqb-true}
+use Rattle.std.proofs.lemmas.Bool.{ltb-true, ltb-false, cases_Bool}
 use Rattle.disk_base.specs.declared.address.Lba.{Lba}
 use Rattle.disk_base.specs.declared.block.Value.TheVariants.{Data}
 use Rattle.platter_model.specs.declared.op.Op.{Op}
@@ -10,22 +10,19 @@ use Rattle.platter_model.specs.declared.op.Op.TheVariants.{Wrote}
 use Rattle.platter_model.specs.State as platter
 use Rattle.mode_pages.specs.declared.settings.Settings.{Settings}
 use Rattle.sense_data.specs.declared.reply.Reply.{Reply}
-use Rattle.geometry_map.specs.DefectMap.{DefectMap, place_of}
+use Rattle.geometry_map.specs.DefectMap.{DefectMap}
 use Rattle.geometry_map.specs.Laws.{BlocksHaveOwnSectors}
 use Rattle.task_set.specs.declared.member.Member.{Member}
 use Rattle.task_set.specs.Members.{member_of, without}
-use Rattle.read_recovery.specs.Stages.{Progress}
 use Rattle.write_cache.specs.Contents.{newest}
 use Rattle.sector_store.specs.State.{Contained, placed}
 use Rattle.sector_store.specs.Stored.{StoresAt, KeepsOthers}
-use Rattle.cdb_reader.specs.declared.plan.Reading as reading
 use Rattle.cdb_reader.specs.declared.plan.Syncing as syncing
 use Rattle.cdb_reader.specs.declared.plan.Plan.{Plan}
 use Rattle.cdb_reader.specs.declared.plan.Plan.TheVariants.{Reading, Syncing}
 use Rattle.command_engine.specs.declared.answer.Answer.TheVariants.{NextDirty}
 use Rattle.command_engine.specs.declared.step.Recovery.{Recovery}
 use Rattle.command_engine.specs.declared.step.Step.{Step}
-use Rattle.command_engine.specs.declared.step.Step.TheVariants.{Trying}
 use Rattle.command_engine.specs.Course.{Course}
 use Rattle.command_engine.specs.Need.{end_of}
 use Rattle.command_engine.specs.Ending.{ending_of}
@@ -34,28 +31,27 @@ use Rattle.block_machine.specs.declared.entry.Entry.{Entry}
 use Rattle.block_machine.specs.declared.entry.Entry.TheVariants.{Harden, Passed, Ended}
 use Rattle.block_machine.specs.declared.entry.Who.TheVariants.{Command}
 use Rattle.block_machine.specs.declared.turn.Label.TheVariants.{Work}
-use Rattle.block_machine.specs.Blocks.{none_dirty, is_dirty}
-use Rattle.block_machine.specs.State.{owed_by}
+use Rattle.block_machine.specs.Blocks.{none_dirty}
 use Rattle.drive_core.specs.declared.accepted.Accepted.{Accepted}
 use Rattle.drive_core.specs.declared.server.Server.{Server}
 use Rattle.drive_core.specs.declared.answer.Ended as told_end
 use Rattle.drive_core.specs.Scene.{Scene, capacity}
-use Rattle.drive_core.specs.Holds.{holder_besides, needed_block, needed_by_plan, first_dirty}
+use Rattle.drive_core.specs.Holds.{holder_besides, needed_block, needed_by_plan}
 use Rattle.drive_core.specs.Accepting.{accepted_of, under_way, Replaces}
 use Rattle.drive_core.specs.Evidence.{lba}
 use Rattle.drive_core.specs.Commands.{view, IsWorking}
 use Rattle.drive_core.specs.Fits.{Fits}
-use Rattle.drive_core.specs.Hardening.{Hardens, MayHardenFor, hardened_at, passed_to, done_before}
+use Rattle.drive_core.specs.Hardening.{Hardens, MayHardenFor, hardened_at, done_before}
 use Rattle.drive_core.specs.Ending.{ended_of_member}
-use Rattle.drive_core.specs.Moves.{Moves, MayWork, Leaves}
+use Rattle.drive_core.specs.Moves.{Moves, Leaves}
 use Rattle.drive_core.proofs.Closing.{Goes, Stops}
-use Rattle.drive_core.proofs.FirstDirty.{dirty_data, none_before_first}
+use Rattle.drive_core.proofs.FirstDirty.{none_before_first}
 use Rattle.drive_core.proofs.Hardened.{IsMet, met_dirty, read, sync}
 use Rattle.drive_core.proofs.HardenTurns.{IsHarden}
 use Rattle.drive_core.proofs.HardenMoves.{IsHardenTurn}
 use Rattle.drive_core.proofs.MetMoves.{met_course, owed_is, through_moves}
 use Rattle.drive_core.proofs.SyncMoves.{sync_hardens, sync_passes}
-use Rattle.drive_core.proofs.TakeTurns.{WorksAt, works_at, StandsAt, stands_at, free_block}
+use Rattle.drive_core.proofs.TakeTurns.{WorksAt, works_at, StandsAt, stands_in, free_block}
 
 -- what a turn that hardens a block is made of
 pub record IsHardened (s : Scene) (d e : Server) (c : ℕ) (b : Lba) (bytes : List ℕ) (w : Course) (m : Member) (a : Accepted) (before entries : List Entry)
@@ -166,7 +162,7 @@ turn_moves s d mid e c b before entries reply told may is =
     let w : Course = may.course in
     let fits : Fits s d = may.may.fits in
     let at : WorksAt (accepted_of d.commands.items c) may.course = works_at (accepted_of d.commands.items c) may.course may.under_way in
-    let stands : StandsAt s c may.course = stands_at s c (accepted_of d.commands.items c) at.a may.course at.is at.works (may.may.fits.staged c) in
+    let stands : StandsAt s c may.course = stands_in s d c may.course may.may.fits may.under_way in
     let free : holder_besides s c b.0 ≡ None = free_block s c stands.m b.0 stands.is_in stands.working.started may.needed may.may.free in
     let held = some_of (newest b d.store.cache) may.dirty in
     let bytes : List ℕ = held.0 in

@@ -1,6 +1,6 @@
 -- The block that a command needs or holds, by its need and by the history.
-use Rattle.std.proofs.Common.{◌≡◌, ◌≢◌, ◌⊎◌, ℕ, zero, suc, ◌+◌, ◌<◌, ◌≤◌, Bool, true, false, not, cond, eqb, ltb, List, [], ◌∷◌, length, get_or, Option, Some, None, refl, sym, ap, ◌∙◌, subst, arith, ⊎_elim}
-use Rattle.std.specs.Prelude.{◌-◌, ◌&&◌, ◌||◌, IsTrue, slice_get, find, position}
+use Rattle.std.proofs.Common.{◌≡◌, ◌≢◌, ℕ, zero, suc, ◌+◌, ◌<◌, ◌≤◌, Bool, true, false, not, cond, eqb, ltb, List, length, get_or, Option, Some, None, refl, sym, ap, ◌∙◌, subst, arith, ⊎_elim}
+use Rattle.std.specs.Prelude.{◌-◌, ◌&&◌, ◌||◌, slice_get, find, position}
 use Rattle.std.specs.List.{range_with_len}
 use Rattle.std.specs.Option.{option_map, option_map_or, option_and_then, is_some}
 use Rattle.std.proofs.lemmas.Bool.{cond-false, lt-ltb, ne_eqb, cases_lt, cases_eq}
@@ -11,12 +11,13 @@ use Rattle.read_recovery.specs.Stages.{Progress, stages_of, next_stage}
 use Rattle.read_recovery.proofs.Table.{plain_stage, ahead_stage, behind_stage, full_stage, erased_stage, past_table}
 use Rattle.write_cache.specs.Contents.{Contents}
 use Rattle.cdb_reader.specs.declared.plan.Reading as reading
+use Rattle.cdb_reader.specs.declared.plan.Writing as writing
 use Rattle.cdb_reader.specs.declared.plan.Plan.{Plan}
-use Rattle.cdb_reader.specs.declared.plan.Plan.TheVariants.{Ending, Unread, Answering, Changing, Reading, Writing, Syncing, Moving, Over}
+use Rattle.cdb_reader.specs.declared.plan.Plan.TheVariants.{Reading, Writing}
 use Rattle.command_engine.specs.declared.need.Need.{Need}
 use Rattle.command_engine.specs.declared.need.Need.TheVariants as need
 use Rattle.command_engine.specs.declared.step.Step.{Step}
-use Rattle.command_engine.specs.declared.step.Step.TheVariants.{Trying, Hardening, Faulted}
+use Rattle.command_engine.specs.declared.step.Step.TheVariants.{Trying}
 use Rattle.command_engine.specs.Course.{Course}
 use Rattle.command_engine.specs.Answers.{is_hardened}
 use Rattle.command_engine.specs.Need.{need_of, need_by, taking}
@@ -30,14 +31,14 @@ use Rattle.drive_core.specs.Holds.{held_by_plan, holds, first_dirty, needed_by_p
 use Rattle.drive_core.specs.Needed.{IsNeeded, IsFirstWithin, is_held}
 use Rattle.drive_core.specs.Accepting.{is_numbered, accepted_of, under_way, errand_of}
 use Rattle.drive_core.specs.Evidence.{lba}
-use Rattle.drive_core.specs.Served.{is_served_plan}
 use Rattle.drive_core.specs.Commands.{View, view, IsTrying, IsAtBlock, IsWorking}
 use Rattle.drive_core.specs.Fits.{IsCached, Fits}
+use Rattle.drive_core.proofs.AtBlock.{at_block}
 use Rattle.drive_core.proofs.Windows.{empty_tried}
 use Rattle.drive_core.proofs.Tries.{next_stage-at}
 use Rattle.drive_core.proofs.Placing.{there}
 use Rattle.drive_core.proofs.FirstDirty.{none_of_cache, least_of_cache, first_dirty-is}
-use Rattle.drive_core.proofs.TakeTurns.{GivenBy, given_by, WorksAt, works_at, StandsAt, stands_at, owed_at}
+use Rattle.drive_core.proofs.TakeTurns.{GivenBy, given_by, StandsAt, stands_in, owed_at}
 
 -- the number of a stage is its place
 numbered : (r k : ℕ) (s : Stage) → slice_get (stages_of r) k ≡ Some s → s.number ≡ k
@@ -92,23 +93,12 @@ untried-sync false h b from to = refl
 
 tried : (v : View) (plan : Plan) (step : Step) (b : Lba) → IsAtBlock v plan step
     → is_held b (is_hardened plan) (need_by plan step) ≡ option_map_or (λ (h : ℕ). eqb h b.0) (held_by_plan v.window plan) false
-tried v (Reading r) (Trying p) b at =
-    ap (λ (t : Bool). is_held b r.hardened (cond t (taking r (next_stage p)) need.Nothing)) (lt-ltb r.at r.end at.left)
-    ∙ tried-read v r p b (next_stage p) at refl at.next
-tried v (Writing w) (Trying p) b at = untried-write (ltb w.at w.end) w.through false b (lba w.at)
-tried v (Syncing y) (Trying p) b at = untried-sync (ltb y.at y.end) false b (lba y.at) (lba y.end)
-tried v (Reading r) Hardening b at = absurd at
-tried v (Reading r) Faulted b at = absurd at
-tried v (Writing w) Hardening b at = absurd at
-tried v (Writing w) Faulted b at = absurd at
-tried v (Syncing y) Hardening b at = absurd at
-tried v (Syncing y) Faulted b at = absurd at
-tried v (Ending reply) step b at = absurd at
-tried v (Unread n) step b at = absurd at
-tried v (Answering bytes reply) step b at = absurd at
-tried v Changing step b at = absurd at
-tried v (Moving x) step b at = absurd at
-tried v Over step b at = absurd at
+tried v plan step b at =
+    at_block v (λ plan step. is_held b (is_hardened plan) (need_by plan step) ≡ option_map_or (λ (h : ℕ). eqb h b.0) (held_by_plan v.window plan) false)
+    (λ r p trying. ap (λ (t : Bool). is_held b r.hardened (cond t (taking r (next_stage p)) need.Nothing)) (lt-ltb r.at r.end trying.left)
+    ∙ tried-read v r p b (next_stage p) trying refl trying.next)
+    (λ w p left. untried-write (ltb w.at w.end) w.through false b (lba w.at))
+    (λ y p left. untried-sync (ltb y.at y.end) false b (lba y.at) (lba y.end)) plan step at
 
 -- a command that is under way, by what it needs
 pub record Needs (s : Scene) (d : Server) (c : ℕ) (n : Need) : Type 0 where
@@ -122,8 +112,7 @@ pub record Needs (s : Scene) (d : Server) (c : ℕ) (n : Need) : Type 0 where
 pub needs : (s : Scene) (d : Server) (c : ℕ) (e : Errand) → Fits s d → option_map errand_of (under_way d.commands.items c) ≡ Some e → Needs s d c e.need
 needs s d c e fits errand =
     let given : GivenBy errand_of (under_way d.commands.items c) e = given_by errand_of (under_way d.commands.items c) e errand in
-    let at : WorksAt (accepted_of d.commands.items c) given.x = works_at (accepted_of d.commands.items c) given.x given.is in
-    let stands : StandsAt s c given.x = stands_at s c (accepted_of d.commands.items c) at.a given.x at.is at.works (fits.staged c) in
+    let stands : StandsAt s c given.x = stands_in s d c given.x fits given.is in
     record {
       w = given.x;
       under_way = given.is;
@@ -170,40 +159,37 @@ needed-sync s cache from to None cached is =
 needed-sync s cache from to (Some b) cached is =
     sym (ap (option_map lba) (first_dirty-is s.hist.blocks from.0 to.0 b.0 (least_of_cache s.hist.blocks cache from to b cached.dirty is.least)))
 
-needed : (s : Scene) (cache : Contents) (v : View) (plan : Plan) (step : Step) (first : Option Lba) → IsCached s cache → IsAtBlock v plan step
-    → IsTrue (is_served_plan plan) → IsNeeded cache (need_by plan step) first → first ≡ option_map lba (needed_by_plan s.hist.blocks plan)
-needed s cache v (Reading r) (Trying p) first cached at served is =
-    let left : ltb r.at r.end ≡ true = lt-ltb r.at r.end at.left in
-    needed-read cache r (next_stage p) first at.next
+needed-reading : (blocks : Blocks) (cache : Contents) (r : reading.Reading) (p : Progress) (first : Option Lba) → r.at < r.end → is_some (next_stage p) ≡ true
+    → IsNeeded cache (need_by (Reading r) (Trying p)) first → first ≡ option_map lba (needed_by_plan blocks (Reading r))
+needed-reading blocks cache r p first inside next is =
+    let left : ltb r.at r.end ≡ true = lt-ltb r.at r.end inside in
+    needed-read cache r (next_stage p) first next
     (subst (λ (t : Bool). IsNeeded cache (cond t (taking r (next_stage p)) need.Nothing) first) left is)
     ∙ sym (ap (λ (t : Bool). option_map lba (cond t (Some r.at) None)) left)
-needed s cache v (Writing w) (Trying p) first cached at served is =
-    let left : ltb w.at w.end ≡ true = lt-ltb w.at w.end at.1 in
+
+needed-writing : (blocks : Blocks) (cache : Contents) (w : writing.Writing) (p : Progress) (first : Option Lba) → w.at < w.end
+    → IsNeeded cache (need_by (Writing w) (Trying p)) first → first ≡ option_map lba (needed_by_plan blocks (Writing w))
+needed-writing blocks cache w p first inside is =
+    let left : ltb w.at w.end ≡ true = lt-ltb w.at w.end inside in
     needed-write cache w.through (lba w.at) first
     (subst (λ (t : Bool). IsNeeded cache (cond t (cond w.through (need.PutThrough (lba w.at)) (need.Put (lba w.at))) need.Nothing) first) left is)
     ∙ sym (ap (λ (t : Bool). option_map lba (cond t (Some w.at) None)) left)
-needed s cache v (Syncing y) (Trying p) first cached at served is =
-    let left : ltb y.at y.end ≡ true = lt-ltb y.at y.end at.1 in
-    needed-sync s cache (lba y.at) (lba y.end) first cached (subst (λ (t : Bool). IsNeeded cache (cond t (need.Pass (lba y.at) (lba y.end)) need.Nothing) first) left is)
-needed s cache v (Reading r) Hardening first cached at served is = absurd at
-needed s cache v (Reading r) Faulted first cached at served is = absurd at
-needed s cache v (Writing w) Hardening first cached at served is = absurd at
-needed s cache v (Writing w) Faulted first cached at served is = absurd at
-needed s cache v (Syncing y) Hardening first cached at served is = absurd at
-needed s cache v (Syncing y) Faulted first cached at served is = absurd at
-needed s cache v (Ending reply) step first cached at served is = absurd at
-needed s cache v (Unread n) step first cached at served is = absurd at
-needed s cache v (Answering bytes reply) step first cached at served is = absurd at
-needed s cache v Changing step first cached at served is = absurd at
-needed s cache v (Moving x) step first cached at served is = absurd at
-needed s cache v Over step first cached at served is = absurd at
+
+needed : (s : Scene) (cache : Contents) (v : View) (plan : Plan) (step : Step) (first : Option Lba) → IsCached s cache → IsAtBlock v plan step
+    → IsNeeded cache (need_by plan step) first → first ≡ option_map lba (needed_by_plan s.hist.blocks plan)
+needed s cache v plan step first cached at is =
+    at_block v (λ plan step. IsNeeded cache (need_by plan step) first → first ≡ option_map lba (needed_by_plan s.hist.blocks plan))
+    (λ r p trying. needed-reading s.hist.blocks cache r p first trying.left trying.next)
+    (λ w p left. needed-writing s.hist.blocks cache w p first left.1)
+    (λ y p left pass. needed-sync s cache (lba y.at) (lba y.end) first cached
+    (subst (λ (t : Bool). IsNeeded cache (cond t (need.Pass (lba y.at) (lba y.end)) need.Nothing) first) (lt-ltb y.at y.end left.1) pass)) plan step at is
 
 -- so is the block that it needs next
 pub needed-is : (s : Scene) (d : Server) (c : ℕ) (e : Errand) (first : Option Lba) → Fits s d → option_map errand_of (under_way d.commands.items c) ≡ Some e
     → IsNeeded d.store.cache e.need first → first ≡ option_map lba (needed_block s c)
 needed-is s d c e first fits errand is =
     let n : Needs s d c e.need = needs s d c e fits errand in
-    needed s d.store.cache (view s c) n.w.plan n.w.step first fits.cached n.working.at_block n.working.served
+    needed s d.store.cache (view s c) n.w.plan n.w.step first fits.cached n.working.at_block
     (subst (λ (x : Need). IsNeeded d.store.cache x first) (sym n.need) is)
     ∙ sym (ap (λ (o : Option Plan). option_map lba (option_and_then (needed_by_plan s.hist.blocks) o)) n.owes)
 

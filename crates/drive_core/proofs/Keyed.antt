@@ -1,8 +1,7 @@
 -- Lists in which things are found by a number.
-use Rattle.std.proofs.Common.{◌≡◌, ◌≢◌, ℕ, zero, suc, ◌+◌, ◌<◌, Bool, true, false, not, cond, List, [], ◌∷◌, ◌++◌, length, Option, Some, None, refl, sym, ap, ◌∙◌, eqb, arith, subst, set, get_or, ltb, ◌≤◌}
-use Rattle.std.specs.Prelude.{filter, map, position, slice_get}
+use Rattle.std.proofs.Common.{◌≡◌, ◌≢◌, ℕ, zero, suc, ◌<◌, Bool, true, false, not, cond, List, [], ◌∷◌, ◌++◌, length, Option, Some, None, refl, sym, ap, ◌∙◌, eqb, subst, set, ltb, ◌≤◌}
+use Rattle.std.specs.Prelude.{filter, position, slice_get}
 use Rattle.std.specs.List.{find, position_or_len}
-use Rattle.std.specs.Option.{option_map}
 use Rattle.std.proofs.lemmas.Bool.{eq-eqb, ne_eqb, eqb-true, ltb-true, ltb-false}
 use Rattle.std.proofs.lemmas.Option.{slice_get_past, get_or_from_slice_get}
 use Rattle.std.proofs.lemmas.List.Folds.{find_at, find-set}

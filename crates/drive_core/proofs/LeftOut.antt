@@ -4,7 +4,6 @@ use Rattle.std.specs.Map.{lookup, remove_entry}
 use Rattle.disk_base.specs.declared.address.Lba.{Lba}
 use Rattle.write_cache.specs.Contents.{Contents, IsCache, is_at, newest, clean_data, with_clean, without_dirty, without_clean}
 use Rattle.write_cache.specs.Laws.{SettlesOne, ForgetsOne, KeepsOthers}
-use Rattle.std.proofs.lemmas.Bool.{eqb-true}
 use Rattle.drive_core.specs.Putting.{LeavesOut}
 
 -- a removal of what isn't there changes nothing

@@ -19,6 +19,7 @@ pub mod Doing
 pub mod HardenTurns
 pub mod Gets
 pub mod Tries
+pub mod AtBlock
 pub mod Windows
 pub mod TurnExamples
 pub mod Parts

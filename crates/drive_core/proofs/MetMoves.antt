@@ -1,8 +1,8 @@
 -- What a command that met a dirty block stands at once the block is hardened, and how its turn moves the drive.
-use Rattle.std.proofs.Common.{◌≡◌, ◌≢◌, ◌⊎◌, ℕ, ◌+◌, ◌<◌, ◌≤◌, Bool, true, false, not, cond, eqb, ltb, List, [], ◌∷◌, ◌++◌, length, Option, Some, None, refl, sym, ap, ◌∙◌, subst, arith, ⊎_elim}
-use Rattle.std.specs.Prelude.{◌&&◌, ◌||◌, IsTrue, Result}
-use Rattle.std.specs.Option.{option_and_then, option_map_or, is_some}
-use Rattle.std.proofs.lemmas.Bool.{eq-eqb, lt-ltb, ltb-true, ltb-false, cases_Bool, cases_eq}
+use Rattle.std.proofs.Common.{◌≡◌, ℕ, ◌<◌, Bool, true, false, not, cond, List, [], ◌∷◌, ◌++◌, Option, Some, None, refl, sym, ap, ◌∙◌, subst}
+use Rattle.std.specs.Prelude.{◌||◌, Result}
+use Rattle.std.specs.Option.{option_and_then, option_map_or}
+use Rattle.std.proofs.lemmas.Bool.{eq-eqb, lt-ltb}
 use Rattle.disk_base.specs.declared.address.Lba.{Lba}
 use Rattle.disk_base.specs.declared.block.Value.TheVariants.{Data}
 use Rattle.platter_model.specs.declared.op.Op.{Op}
@@ -11,47 +11,42 @@ use Rattle.sense_data.specs.declared.reply.Reply.{Reply}
 use Rattle.sense_data.specs.declared.sense.Sense.{Sense}
 use Rattle.task_set.specs.declared.member.Member.{Member}
 use Rattle.task_set.specs.Members.{member_of}
-use Rattle.read_recovery.specs.Stages.{Progress, begun}
+use Rattle.read_recovery.specs.Stages.{Progress}
 use Rattle.cdb_reader.specs.Request.{Request}
-use Rattle.cdb_reader.specs.Replies.{good, same_reply}
 use Rattle.cdb_reader.specs.declared.plan.Reading as reading
-use Rattle.cdb_reader.specs.declared.plan.Syncing as syncing
 use Rattle.cdb_reader.specs.declared.plan.Plan.{Plan}
-use Rattle.cdb_reader.specs.declared.plan.Plan.TheVariants.{Reading, Syncing, Over}
+use Rattle.cdb_reader.specs.declared.plan.Plan.TheVariants.{Reading}
 use Rattle.cdb_reader.specs.declared.plan.Deed.TheVariants as deed
 use Rattle.cdb_reader.specs.Plan.{next}
 use Rattle.command_engine.specs.declared.step.Recovery.{Recovery}
-use Rattle.command_engine.specs.declared.step.Step.{Step}
 use Rattle.command_engine.specs.declared.step.Step.TheVariants.{Trying}
 use Rattle.command_engine.specs.Course.{Course}
 use Rattle.command_engine.specs.Ending.{ending_of, report_of}
 use Rattle.block_machine.specs.declared.entry.Entry.{Entry}
-use Rattle.block_machine.specs.declared.entry.Entry.TheVariants.{Harden, Passed, Ended}
+use Rattle.block_machine.specs.declared.entry.Entry.TheVariants.{Harden}
 use Rattle.block_machine.specs.declared.entry.Who.TheVariants.{Command}
 use Rattle.block_machine.specs.declared.turn.Label.TheVariants.{Work}
-use Rattle.block_machine.specs.Blocks.{Blocks, is_dirty, hardened_with, none_dirty}
+use Rattle.block_machine.specs.Blocks.{is_dirty}
 use Rattle.block_machine.specs.State.{State, Duty, owed_by}
 use Rattle.block_machine.specs.Steps as steps
 use Rattle.block_machine.proofs.Booleans.{and_both}
 use Rattle.drive_core.specs.declared.accepted.Accepted.{Accepted}
 use Rattle.drive_core.specs.declared.server.Server.{Server}
 use Rattle.drive_core.specs.declared.answer.Ended as told_end
-use Rattle.drive_core.specs.Scene.{Scene, capacity, last_found, window_after}
+use Rattle.drive_core.specs.Scene.{Scene, capacity, window_after}
 use Rattle.drive_core.specs.Holds.{held_by_plan, held_block, holder_besides}
-use Rattle.drive_core.specs.Evidence.{lba}
-use Rattle.drive_core.specs.Commands.{view, IsWorking, IsCommand, IsTrying, IsOwnRange, IsOwnRecovery}
+use Rattle.drive_core.specs.Commands.{view, IsWorking, IsCommand, IsOwnRange, IsOwnRecovery}
 use Rattle.drive_core.specs.Hardening.{hardened_at}
 use Rattle.drive_core.specs.Moves.{Moves, beat}
-use Rattle.read_recovery.proofs.Table.{plain_stage}
+use Rattle.drive_core.proofs.AtBlock.{first_read}
 use Rattle.drive_core.proofs.Tables.{put_at-own}
 use Rattle.drive_core.proofs.Halves.{Half}
 use Rattle.drive_core.proofs.Apart.{holds_next}
 use Rattle.drive_core.proofs.Fitting.{after_half}
-use Rattle.drive_core.proofs.Closing.{Goes, Stops}
-use Rattle.drive_core.proofs.Doing.{owed-begun, hardened_duty, passed_owes}
-use Rattle.drive_core.proofs.HardenTurns.{IsHarden, half_hardened, hardened-newest, hardened_blocks}
-use Rattle.drive_core.proofs.PassTurns.{half_passed_hardened, passed_state}
-use Rattle.drive_core.proofs.HardenMoves.{IsHardenTurn, op_of, harden_on, harden_ends}
+use Rattle.drive_core.proofs.Closing.{Goes}
+use Rattle.drive_core.proofs.Doing.{owed-begun, hardened_duty}
+use Rattle.drive_core.proofs.HardenTurns.{IsHarden, half_hardened, hardened-newest}
+use Rattle.drive_core.proofs.HardenMoves.{IsHardenTurn, op_of, harden_on}
 
 -- a command in the set owes its plan
 pub owed_is : (s : Scene) (c : ℕ) (m : Member) (plan : Plan) → member_of s.hist.set c ≡ Some m → (s.hist.duties c).owes ≡ Some plan → owed_by s.hist c ≡ Some plan
@@ -103,15 +98,8 @@ module _ (s : Scene) (c : ℕ) (m : Member) (settings : Settings) (gives : Bool)
           settings = working.settings;
           retry = working.retry;
           recovered = working.recovered;
-          at_block = record {
-            left = left;
-            next = ap is_some (plain_stage settings.retry 0 (omega arith));
-            retry = sym (ap (λ (x : Settings). x.retry) working.settings);
-            failed = λ k x below here. absurd (omega arith);
-            unfound = ap last_found window;
-            tried = ap length window;
-            clean = ap (λ (o : Option ℕ). option_map_or (λ k. is_dirty (t.hist.blocks k)) o false) held ∙ clean_there;
-          };
+          at_block = first_read (view t c) (record r { hardened = true }) settings left window working.settings
+              (ap (λ (o : Option ℕ). option_map_or (λ k. is_dirty (t.hist.blocks k)) o false) held ∙ clean_there);
           range = working.range;
           own_recovery = subst (λ (x : Result Request Sense). IsOwnRecovery x rec) (sym asks) working.own_recovery;
           own_range = subst (λ (x : Result Request Sense). IsOwnRange x (Reading (record r { hardened = true }))) (sym asks) working.own_range;

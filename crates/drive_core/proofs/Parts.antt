@@ -1,7 +1,6 @@
 -- Parts of a drive that a turn which changes no newest value leaves fitting.
-use Rattle.std.proofs.Common.{◌≡◌, ◌≢◌, ℕ, ◌≤◌, ◌<◌, Bool, true, false, cond, eqb, List, [], ◌∷◌, ◌++◌, length, Option, Some, None, refl, sym, ap, ◌∙◌, subst, ⊎_elim, inl, inr, append-nil}
-use Rattle.std.specs.Prelude.{Contains}
-use Rattle.std.specs.Option.{option_map, option_map_or}
+use Rattle.std.proofs.Common.{◌≡◌, ℕ, ◌<◌, true, false, List, [], ◌++◌, Option, Some, None, refl, sym, ap, ◌∙◌, subst, ⊎_elim, inl, inr, append-nil}
+use Rattle.std.specs.Option.{option_map_or}
 use Rattle.std.proofs.lemmas.Bool.{eqb-true, cases_Bool}
 use Rattle.std.proofs.lemmas.List.Elements.{Contains-append_left}
 use Rattle.std.proofs.lemmas.List.Sums.{fold-append}
@@ -17,7 +16,7 @@ use Rattle.platter_model.specs.Sector.{is_faulty, faulty_after}
 use Rattle.platter_model.specs.TrueLog.{supply_after, powered, is_unpowered, is_off, strays}
 use Rattle.geometry_map.specs.DefectMap.{DefectMap}
 use Rattle.geometry_map.specs.Size.{capacity_of}
-use Rattle.write_cache.specs.Contents.{Contents, IsCache, is_at, newest, clean_data, with_clean, after_look}
+use Rattle.write_cache.specs.Contents.{Contents, IsCache, is_at, clean_data, with_clean, after_look}
 use Rattle.write_cache.specs.Laws.{KeepsOthers}
 use Rattle.sector_store.specs.Shapes.{try_of}
 use Rattle.sector_store.specs.Stored.{stored}

@@ -1,6 +1,6 @@
 -- The commands that are in, after a change of one.
-use Rattle.std.proofs.Common.{◌≡◌, ◌≢◌, ℕ, ◌<◌, Bool, true, false, not, List, length, Option, Some, None, refl, sym, ap, ◌∙◌, subst, eqb, set, get_or}
-use Rattle.std.specs.Prelude.{position, slice_get, filter, IsSomeAnd, IsTrue}
+use Rattle.std.proofs.Common.{◌≡◌, ℕ, true, not, List, Option, Some, None, refl, sym, ap, ◌∙◌, subst, eqb, set, get_or}
+use Rattle.std.specs.Prelude.{position, filter, IsSomeAnd, IsTrue}
 use Rattle.std.specs.Option.{option_map, option_and_then}
 use Rattle.std.proofs.lemmas.Bool.{eqb-true}
 use Rattle.std.proofs.lemmas.Option.{slice_get-get_or}

@@ -1,5 +1,5 @@
 -- The cache after a put, and how full it was.
-use Rattle.std.proofs.Common.{◌≡◌, ◌≢◌, ◌⊎◌, ℕ, suc, ◌+◌, ◌<◌, ◌≤◌, Bool, true, false, not, cond, eqb, leb, List, [], ◌∷◌, ◌++◌, length, Option, Some, None, refl, sym, ap, ◌∙◌, subst, arith, ⊎_elim, inl, inr}
+use Rattle.std.proofs.Common.{◌≡◌, ◌≢◌, ℕ, suc, ◌+◌, ◌<◌, ◌≤◌, Bool, true, false, not, cond, eqb, leb, List, [], ◌∷◌, ◌++◌, length, Option, Some, None, refl, sym, ap, ◌∙◌, subst, arith, ⊎_elim, inl}
 use Rattle.std.specs.Prelude.{map, filter, Contains}
 use Rattle.std.specs.List.{list_any}
 use Rattle.std.specs.Map.{keys_of, lookup, remove_entry, set_value}
@@ -13,21 +13,20 @@ use Rattle.platter_model.specs.TrueLog.{strays}
 use Rattle.geometry_map.specs.DefectMap.{DefectMap}
 use Rattle.geometry_map.specs.Size.{capacity_of}
 use Rattle.sector_store.specs.Stored.{stored}
-use Rattle.write_cache.specs.Contents.{Contents, IsCache, IsFullFor, is_at, newest, clean_data, put_data, without_dirty}
+use Rattle.write_cache.specs.Contents.{Contents, IsCache, IsFullFor, is_at, newest, put_data}
 use Rattle.write_cache.specs.Laws.{SettlesOne}
-use Rattle.block_machine.specs.declared.array.BlockState.{BlockState}
 use Rattle.block_machine.specs.declared.entry.Entry.{Entry}
 use Rattle.block_machine.specs.declared.entry.Entry.TheVariants.{Put}
 use Rattle.block_machine.specs.declared.turn.Label.TheVariants.{Work}
 use Rattle.block_machine.specs.Blocks.{is_dirty, after_put, with_address, without_address}
 use Rattle.block_machine.specs.Blocks as blocks
 use Rattle.block_machine.specs.Deeds.{is_crowded}
-use Rattle.block_machine.specs.State.{State, Duty}
+use Rattle.block_machine.specs.State.{Duty}
 use Rattle.block_machine.specs.Steps.{begun}
-use Rattle.drive_core.specs.Scene.{Scene, capacity}
+use Rattle.drive_core.specs.Scene.{Scene}
 use Rattle.drive_core.specs.Evidence.{IsKnown}
 use Rattle.drive_core.specs.Fits.{IsClean, IsCached}
-use Rattle.drive_core.specs.Putting.{TakesIn, LeavesOut, NewestBut, CleanBesides}
+use Rattle.drive_core.specs.Putting.{TakesIn, LeavesOut, NewestBut}
 use Rattle.drive_core.proofs.Tables.{put_at-own}
 use Rattle.drive_core.proofs.Parts.{known-more}
 use Rattle.drive_core.proofs.PutTurns.{newest-put}

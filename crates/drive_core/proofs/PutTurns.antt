@@ -1,9 +1,9 @@
 -- Half a turn in which a command puts a block, into the cache or to its place.
-use Rattle.std.proofs.Common.{◌≡◌, ◌≢◌, ◌⊎◌, ℕ, ◌+◌, ◌-◌, ◌<◌, ◌≤◌, Bool, true, false, not, cond, eqb, List, [], ◌∷◌, ◌++◌, length, Option, Some, None, refl, sym, ap, ◌∙◌, subst, arith, ⊎_elim, length-append}
-use Rattle.std.specs.Prelude.{◌&&◌, ◌||◌, slice_get, IsTrue}
-use Rattle.std.specs.List.{list_any, list_all}
+use Rattle.std.proofs.Common.{◌≡◌, ◌≢◌, ℕ, ◌-◌, ◌<◌, Bool, true, false, cond, eqb, List, [], ◌∷◌, ◌++◌, length, Some, None, refl, sym, ap, ◌∙◌, subst, arith, ⊎_elim, length-append}
+use Rattle.std.specs.Prelude.{◌||◌, slice_get}
+use Rattle.std.specs.List.{list_any}
 use Rattle.std.specs.Option.{is_some}
-use Rattle.std.proofs.lemmas.Bool.{eq-eqb, ne_eqb, eqb-true, cases_eq, lt-ltb}
+use Rattle.std.proofs.lemmas.Bool.{eq-eqb, eqb-true, cases_eq, lt-ltb}
 use Rattle.std.proofs.lemmas.List.{append-nil}
 use Rattle.std.proofs.lemmas.List.Folds.{list_any-append}
 use Rattle.std.proofs.lemmas.List.Elements.{All-nil, All-from_recursion}
@@ -16,8 +16,7 @@ use Rattle.disk_base.specs.declared.block.Value.TheVariants.{Data, Lost}
 use Rattle.disk_base.specs.Payload.{value_for}
 use Rattle.platter_model.specs.declared.op.Op.{Op}
 use Rattle.platter_model.specs.declared.op.Op.TheVariants.{Wrote}
-use Rattle.platter_model.specs.TrueLog.{strays}
-use Rattle.geometry_map.specs.DefectMap.{DefectMap, place_of}
+use Rattle.geometry_map.specs.DefectMap.{place_of}
 use Rattle.sector_store.specs.Maps.{MayBeRecovered}
 use Rattle.sector_store.specs.Stored.{stored, StoresAt, KeepsOthers}
 use Rattle.sector_store.specs.State.{placed}
@@ -26,7 +25,6 @@ use Rattle.cdb_reader.specs.declared.plan.Plan.{Plan}
 use Rattle.cdb_reader.specs.declared.plan.Deed.TheVariants as deed
 use Rattle.cdb_reader.specs.Plan.{next}
 use Rattle.block_machine.specs.declared.array.BlockState.{BlockState}
-use Rattle.block_machine.specs.declared.entry.Entry.{Entry}
 use Rattle.block_machine.specs.declared.entry.Entry.TheVariants.{Put, Harden}
 use Rattle.block_machine.specs.declared.entry.Who.TheVariants.{Command}
 use Rattle.block_machine.specs.declared.turn.Label.TheVariants.{Work}
@@ -37,9 +35,8 @@ use Rattle.block_machine.specs.Steps.{begun, entry_after}
 use Rattle.block_machine.specs.Entries.{entry_lawful}
 use Rattle.block_machine.proofs.Booleans.{and_both}
 use Rattle.drive_core.specs.Scene.{Scene, capacity}
-use Rattle.drive_core.specs.Holds.{held_block, holder_besides}
-use Rattle.drive_core.specs.GoodTurn.{IsStood, is_about, WritesBlockData}
-use Rattle.drive_core.specs.Moves.{beat}
+use Rattle.drive_core.specs.Holds.{holder_besides}
+use Rattle.drive_core.specs.GoodTurn.{IsStood, WritesBlockData}
 use Rattle.drive_core.proofs.Tables.{put_at-own, put_at-other}
 use Rattle.drive_core.proofs.Halves.{Half, IsQuiet}
 use Rattle.drive_core.proofs.Doing.{quiet-begun, owed-begun, quiet-trans, quiet_then, owed_then, still_owed, hardened_owes, hardened_quiet, hardened_lawful}

@@ -1,11 +1,10 @@
 -- A turn of a read, whatever it finds.
-use Rattle.std.proofs.Common.{◌≡◌, ◌≢◌, ℕ, ◌+◌, ◌<◌, ◌≤◌, Bool, true, false, not, cond, eqb, ltb, List, [], ◌∷◌, ◌++◌, length, Option, Some, None, refl, sym, ap, ◌∙◌, subst, arith, ⊎_elim, ◌⊎◌, inl, inr, append-nil}
-use Rattle.std.specs.Prelude.{◌&&◌, ◌||◌, slice_get, IsTrue, Result}
+use Rattle.std.proofs.Common.{◌≡◌, ℕ, ◌+◌, ◌<◌, Bool, true, false, not, cond, eqb, ltb, List, [], ◌∷◌, ◌++◌, length, Option, Some, None, refl, sym, ap, ◌∙◌, subst, arith, ⊎_elim, ◌⊎◌}
+use Rattle.std.specs.Prelude.{◌&&◌, ◌||◌, slice_get, Result}
 use Rattle.sense_data.specs.declared.sense.Sense.{Sense}
 use Rattle.cdb_reader.specs.Request.{Request}
 use Rattle.std.specs.Option.{option_and_then, option_map_or, is_none, is_some}
-use Rattle.std.proofs.lemmas.Bool.{eq-eqb, eqb-true, lt-ltb, ltb-true, and_left, and_right}
-use Rattle.disk_base.specs.declared.address.Lba.{Lba}
+use Rattle.std.proofs.lemmas.Bool.{eq-eqb, lt-ltb}
 use Rattle.disk_base.specs.declared.block.Value.{Value}
 use Rattle.disk_base.specs.declared.block.Value.TheVariants.{Data, Lost}
 use Rattle.disk_base.specs.declared.stage.Stage.{Stage}
@@ -14,37 +13,34 @@ use Rattle.mode_pages.specs.declared.settings.Settings.{Settings}
 use Rattle.task_set.specs.declared.member.Member.{Member}
 use Rattle.task_set.specs.Members.{member_of}
 use Rattle.read_recovery.specs.Stages.{Progress, begun, next_stage, answered, stages_of}
-use Rattle.read_recovery.proofs.Table.{plain_stage}
 use Rattle.cdb_reader.specs.declared.plan.Reading as reading
 use Rattle.cdb_reader.specs.declared.plan.Plan.{Plan}
 use Rattle.cdb_reader.specs.declared.plan.Plan.TheVariants.{Reading, Unread}
 use Rattle.cdb_reader.specs.declared.plan.Deed.TheVariants as deed
 use Rattle.cdb_reader.specs.Plan.{next}
-use Rattle.command_engine.specs.declared.answer.Answer.{Answer}
 use Rattle.command_engine.specs.declared.answer.Answer.TheVariants.{Got, Missed}
 use Rattle.command_engine.specs.declared.step.Recovery.{Recovery}
-use Rattle.command_engine.specs.declared.step.Step.{Step}
 use Rattle.command_engine.specs.declared.step.Step.TheVariants.{Trying}
 use Rattle.command_engine.specs.Course.{Course}
 use Rattle.command_engine.specs.Answers.{after, found_by}
-use Rattle.block_machine.specs.declared.entry.Entry.{Entry}
 use Rattle.block_machine.specs.declared.entry.Entry.TheVariants.{Get}
 use Rattle.block_machine.specs.declared.turn.Label.TheVariants.{Work}
 use Rattle.block_machine.specs.Blocks.{is_dirty}
-use Rattle.block_machine.specs.State.{State, Duty, owed_by}
+use Rattle.block_machine.specs.State.{Duty, owed_by}
 use Rattle.block_machine.specs.Steps as steps
 use Rattle.block_machine.proofs.Booleans.{and_both}
 use Rattle.drive_core.specs.declared.accepted.Accepted.{Accepted}
-use Rattle.drive_core.specs.Scene.{Scene, capacity, last_found, past_plain_read, recovered_by, windows_with, scene_after, window_after}
+use Rattle.drive_core.specs.Scene.{Scene, last_found, past_plain_read, window_after}
 use Rattle.drive_core.specs.Holds.{held_by_plan, held_block}
 use Rattle.geometry_map.specs.DefectMap.{place_of}
 use Rattle.sector_store.specs.Shapes.{try_of}
 use Rattle.drive_core.specs.Evidence.{lba, FailedBelow}
-use Rattle.drive_core.specs.Commands.{View, view, IsTrying, IsWorking, IsCommand, IsOwnRange, IsOwnRecovery}
+use Rattle.drive_core.specs.Commands.{view, IsTrying, IsWorking, IsCommand, IsOwnRange, IsOwnRecovery}
 use Rattle.drive_core.specs.Moves.{beat}
+use Rattle.drive_core.proofs.AtBlock.{first_read}
 use Rattle.drive_core.proofs.Tables.{put_at-own}
 use Rattle.drive_core.proofs.Tries.{last_found-try, length-try, failed-next, next_stage-at}
-use Rattle.drive_core.proofs.GetTurns.{recovered-got, got_state, got-duty, begun-owes, begun-duty}
+use Rattle.drive_core.proofs.GetTurns.{recovered-got, got-duty, begun-owes, begun-duty}
 use Rattle.drive_core.proofs.Fitting.{after_half}
 
 some_left : {X : Type 0} (o : Option X) → is_none o ≡ false → is_some o ≡ true
@@ -150,15 +146,8 @@ module _ (s : Scene) (c : ℕ) (m : Member) (settings : Settings) (gives : Bool)
           settings = working.settings;
           retry = working.retry;
           recovered = recovered-is bytes ops next_is working.recovered by;
-          at_block = record {
-            left = more;
-            next = ap is_some (plain_stage settings.retry 0 (omega arith));
-            retry = sym (ap (λ (x : Settings). x.retry) working.settings);
-            failed = λ k x below here. absurd (omega arith);
-            unfound = ap last_found window;
-            tried = ap length window;
-            clean = ap (λ (o : Option ℕ). option_map_or (λ b. is_dirty (t.hist.blocks b)) o false) held;
-          };
+          at_block = first_read (view t c) (record r { at = r.at + 1; hardened = false }) settings more window working.settings
+              (ap (λ (o : Option ℕ). option_map_or (λ b. is_dirty (t.hist.blocks b)) o false) held);
           range = working.range;
           own_recovery = subst (λ (x : Result Request Sense). IsOwnRecovery x (after course (Got (Data bytes))).recovered) (sym asks)
               (own-recovered bytes (s.hist.duties c).asks left next_is working.own_range working.own_recovery);

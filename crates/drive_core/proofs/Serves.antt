@@ -1,6 +1,6 @@
 -- What is served asks for what is served.
-use Rattle.std.proofs.Common.{◌≡◌, ℕ, Bool, true, false, not, cond, List, Option, Some, None, refl, sym, ap, ◌∙◌}
-use Rattle.std.specs.Prelude.{◌||◌, ◌==◌, slice_index, Result, Ok, Err}
+use Rattle.std.proofs.Common.{◌≡◌, ℕ, Bool, true, false, not, cond, List, Option, Some, None, refl, ap}
+use Rattle.std.specs.Prelude.{◌||◌, ◌==◌, slice_index, Result, Err}
 use Rattle.std.specs.Option.{option_map_or}
 use Rattle.disk_base.specs.declared.command.DataOut.{DataOut}
 use Rattle.sense_data.specs.declared.sense.Sense.{Sense}

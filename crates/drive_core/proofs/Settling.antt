@@ -12,7 +12,6 @@ use Rattle.platter_model.specs.State.{State, with_op, after_write, after_good_wr
 use Rattle.platter_model.specs.TrueLog.{is_off}
 use Rattle.write_cache.specs.Contents.{Contents, IsCache, is_at, newest, clean_data, with_clean, without_dirty, found_at, after_look}
 use Rattle.write_cache.specs.Laws.{SettlesOne, KeepsOthers}
-use Rattle.write_cache.specs.declared.cache.Look.{Look}
 use Rattle.write_cache.specs.declared.cache.Look.TheVariants.{Dirty, Clean, Absent}
 use Rattle.drive_core.specs.Hardening.{Settles}
 

@@ -1,6 +1,6 @@
 -- What the commands that are served begin with: the blocks that each works on, and its plan.
-use Rattle.std.proofs.Common.{◌≡◌, ◌≢◌, ℕ, ◌+◌, ◌≤◌, ◌<◌, Bool, true, false, not, cond, eqb, leb, List, [], ◌∷◌, Option, Some, None, refl, sym, ap, ◌∙◌, subst, arith}
-use Rattle.std.specs.Prelude.{◌^◌, ◌&&◌, ◌||◌, unwrap_or, IsTrue, Result, Ok, Err}
+use Rattle.std.proofs.Common.{◌≡◌, ◌≢◌, ℕ, ◌+◌, ◌≤◌, Bool, true, false, not, cond, eqb, leb, List, [], ◌∷◌, Option, Some, None, refl, sym, ap, ◌∙◌, subst, arith}
+use Rattle.std.specs.Prelude.{◌^◌, ◌&&◌, ◌||◌, unwrap_or, Result, Ok, Err}
 use Rattle.std.proofs.lemmas.Bool.{eqb-false, leb-true, le-leb, and_parts}
 use Rattle.disk_base.specs.declared.command.DataOut.{DataOut}
 use Rattle.disk_base.specs.declared.command.DataOut.TheVariants.{Nothing}
@@ -9,7 +9,7 @@ use Rattle.mode_pages.specs.declared.settings.Settings.{Settings}
 use Rattle.read_recovery.specs.Stages as progress
 use Rattle.cdb_reader.specs.declared.command.Command.{Command}
 use Rattle.cdb_reader.specs.declared.plan.Plan.{Plan}
-use Rattle.cdb_reader.specs.declared.plan.Plan.TheVariants.{Ending, Reading, Writing, Syncing, Over}
+use Rattle.cdb_reader.specs.declared.plan.Plan.TheVariants.{Ending, Syncing, Over}
 use Rattle.cdb_reader.specs.Plan.{unless_empty, reading_from, writing_from}
 use Rattle.cdb_reader.specs.Read.{in_range, has_data}
 use Rattle.cdb_reader.specs.Replies.{good}
@@ -22,10 +22,9 @@ use Rattle.block_machine.specs.declared.entry.Entry.{Entry}
 use Rattle.block_machine.specs.declared.entry.Entry.TheVariants.{Started}
 use Rattle.block_machine.specs.declared.turn.Label.TheVariants.{Work}
 use Rattle.block_machine.specs.Plans.{answering, answering_sensed, plan_asked}
-use Rattle.block_machine.specs.State.{State, Duty, initiator_of}
+use Rattle.block_machine.specs.State.{State, initiator_of}
 use Rattle.block_machine.specs.Turns.{owes_nothing_now}
 use Rattle.block_machine.proofs.Booleans.{and_both}
-use Rattle.drive_core.specs.declared.accepted.Accepted.{Accepted}
 use Rattle.drive_core.specs.declared.server.Server.{Server}
 use Rattle.drive_core.specs.declared.answer.Ended as told_end
 use Rattle.drive_core.specs.declared.starting.First.{First}
@@ -39,7 +38,8 @@ use Rattle.drive_core.specs.Served.{is_served, is_served_plan}
 use Rattle.drive_core.specs.Starting.{IsFirst}
 use Rattle.task_set.specs.Members.{with_started}
 use Rattle.drive_core.proofs.FirstPlans.{plan_of_request, tells}
-use Rattle.drive_core.proofs.StartTurns.{MayStart, may_start, IsStartOf, BeginsWork, IsWork, begins_with_work, no_ending, plan_of_start, not_empty, few_blocks, first_read, starts_working}
+use Rattle.drive_core.proofs.AtBlock.{first_read}
+use Rattle.drive_core.proofs.StartTurns.{MayStart, may_start, IsStartOf, BeginsWork, IsWork, begins_with_work, no_ending, plan_of_start, not_empty, few_blocks, starts_working}
 
 -- a request that works on blocks which it names by a range
 pub data IsOnBlocks : Request → Type 0 where

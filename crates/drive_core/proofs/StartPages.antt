@@ -1,7 +1,6 @@
 -- The turn of a command that starts, gives data and ends.
-use Rattle.std.proofs.Common.{◌≡◌, ◌≢◌, ℕ, ◌+◌, Bool, true, false, cond, List, [], ◌∷◌, ◌++◌, take, Option, Some, None, refl, sym, ap, ◌∙◌, subst, arith}
-use Rattle.std.specs.Prelude.{◌&&◌, Result, Ok, Err}
-use Rattle.std.specs.Str.{bytes_eq}
+use Rattle.std.proofs.Common.{◌≡◌, ◌≢◌, ℕ, Bool, true, false, cond, List, [], ◌∷◌, take, Option, Some, None, refl, sym, ap, ◌∙◌, subst, arith}
+use Rattle.std.specs.Prelude.{Result, Ok}
 use Rattle.std.specs.Option.{option_and_then, is_some}
 use Rattle.std.proofs.lemmas.Bool.{eq-eqb}
 use Rattle.std.proofs.lemmas.List.Elements.{All-nil}
@@ -22,8 +21,8 @@ use Rattle.cdb_reader.specs.Request.{Request, ReadDefectData}
 use Rattle.block_machine.specs.declared.entry.Entry.{Entry}
 use Rattle.block_machine.specs.declared.entry.Entry.TheVariants.{Started, Page, Ended}
 use Rattle.block_machine.specs.declared.turn.Label.TheVariants.{Work}
-use Rattle.block_machine.specs.Deeds.{Done, done, names_dirty, owed_after, page_done}
-use Rattle.block_machine.specs.DriveOnly.{defect_heading, has_defect_length}
+use Rattle.block_machine.specs.Deeds.{Done, done, owed_after, page_done}
+use Rattle.block_machine.specs.DriveOnly.{defect_heading}
 use Rattle.block_machine.specs.Entries.{entry_lawful}
 use Rattle.block_machine.specs.Plans.{plan_unless_refused, defect_reply}
 use Rattle.block_machine.specs.State.{State, Duty, initiator_of, owed_by}
@@ -46,7 +45,8 @@ use Rattle.drive_core.proofs.Elsewhere.{IsAlike}
 use Rattle.drive_core.proofs.Halves.{end_lawful, over_owes}
 use Rattle.drive_core.proofs.DefectPages.{defect_data-heading, defect_data-length}
 use Rattle.drive_core.proofs.FirstPlans.{IsNoEnding, plan_there, plan_unmet, same_reply-own}
-use Rattle.drive_core.proofs.StartTurns.{BeginsWithPage, begins_with_page, IsStartOf, plan_of_start, start_lawful, start-asks, start-owes, started_state, find-started_own, find-started_other, still_stands, added, windows, fits_ended, told_as_in}
+use Rattle.drive_core.proofs.Unmoved.{still_stands, none_added}
+use Rattle.drive_core.proofs.StartTurns.{BeginsWithPage, begins_with_page, IsStartOf, plan_of_start, start_lawful, start-asks, start-owes, started_state, find-started_own, find-started_other, windows, fits_ended, told_as_in}
 
 -- the data that a command gives are what its plan owes, and what the drive's map has
 pub record IsOwedPage (m : DefectMap) (asks : Result Request Sense) (c : ℕ) (planned bytes : List ℕ) : Type 0 where
@@ -147,7 +147,7 @@ module _ (s : Scene) (d e : Server) (c : ℕ) (bytes : List ℕ) (reply : Reply)
       let M : List Entry → Option told_end.Ended → Type 0 = λ es o. Moves (Work c) s d e es o in
       let moves : M (Started c ∷ Page c bytes ∷ Ended c reply ∷ []) (ended_of_member (member_of s.hist.set c) reply) = record {
         ops = [];
-        added = added s d e c is;
+        added = none_added s d e is.fits is.store;
         good = record {
           tasks = and_both _ _ (and_both true _ refl (and_both _ _ (start_lawful s d c is.may) (and_both _ _ page_lawful (and_both _ true end_is_lawful refl))))
               (ap owes_nothing_now (over_owes (capacity s) after c reply));
@@ -165,24 +165,10 @@ module _ (s : Scene) (d e : Server) (c : ℕ) (bytes : List ℕ) (reply : Reply)
           own = and_both _ _ (eq-eqb c c refl) (and_both _ _ (eq-eqb c c refl) (and_both _ _ (eq-eqb c c refl) refl));
           window = windows s d e c is (Started c ∷ Page c bytes ∷ Ended c reply ∷ []);
           held = λ q below about. absurd (cc);
-          stands = still_stands s d e c is;
+          stands = still_stands s d e is.fits is.store;
         };
-        fits = fits_ended s d e c is t (Started c ∷ Page c bytes ∷ Ended c reply ∷ []) (record {
-          map = refl;
-          ops = refl;
-          since = refl;
-          entries = refl;
-          order = refl;
-          blocks = refl;
-          settings = refl;
-          waiting = refl;
-          corrupt = refl;
-          scan = refl;
-          set = refl;
-          arrived = refl;
-          alike = alike;
-          windows = windows s d e c is (Started c ∷ Page c bytes ∷ Ended c reply ∷ []);
-        }) set_is drops;
+        fits = fits_ended s d e c is (Started c ∷ Page c bytes ∷ Ended c reply ∷ []) t.hist.duties t.windows t.settings t.recovered alike
+            (windows s d e c is (Started c ∷ Page c bytes ∷ Ended c reply ∷ [])) set_is drops;
         counted = omega (arith, is.arrived);
         ended = refl;
       } in

@@ -1,8 +1,8 @@
 -- The first turn of work on a command.
-use Rattle.std.proofs.Common.{◌≡◌, ◌≢◌, ℕ, ◌+◌, ◌≤◌, ◌<◌, Bool, true, false, not, cond, eqb, leb, List, [], ◌∷◌, ◌++◌, length, map, Option, Some, None, refl, sym, ap, ◌∙◌, subst, arith, append-nil}
-use Rattle.std.specs.Prelude.{◌^◌, ◌&&◌, ◌||◌, ◌==◌, All, unwrap_or, slice_index, IsTrue, IsSome, IfOk, Result, Ok, Err}
-use Rattle.std.specs.Option.{option_and_then, option_map, option_map_or, is_none, is_some}
-use Rattle.std.proofs.lemmas.Bool.{eq-eqb, ne_eqb, eqb-true, eqb-false, leb-true, le-leb, and_parts}
+use Rattle.std.proofs.Common.{◌≡◌, ◌≢◌, ℕ, ◌≤◌, Bool, true, false, not, cond, eqb, List, [], ◌∷◌, ◌++◌, length, Option, Some, None, refl, sym, ap, ◌∙◌, subst, arith}
+use Rattle.std.specs.Prelude.{◌&&◌, ◌||◌, All, unwrap_or, slice_index, IsSome, IfOk, Result, Ok, Err}
+use Rattle.std.specs.Option.{option_and_then, option_map, option_map_or, is_none}
+use Rattle.std.proofs.lemmas.Bool.{eq-eqb, ne_eqb, eqb-true}
 use Rattle.std.proofs.lemmas.List.Elements.{All-nil, All-map, All-weaker, All-filter}
 use Rattle.platter_model.specs.declared.op.Op.{Op}
 use Rattle.sense_data.specs.declared.reply.Reply.{Reply}
@@ -12,11 +12,10 @@ use Rattle.cdb_reader.specs.declared.plan.Plan.{Plan}
 use Rattle.cdb_reader.specs.declared.command.Command.{Command}
 use Rattle.cdb_reader.specs.declared.plan.Plan.TheVariants.{Ending, Answering, Over}
 use Rattle.cdb_reader.specs.declared.plan.Deed.TheVariants as deed
-use Rattle.cdb_reader.specs.Plan.{next, unless_empty, reading_from}
-use Rattle.cdb_reader.specs.Read.{in_range, read_of}
+use Rattle.cdb_reader.specs.Plan.{next, unless_empty}
+use Rattle.cdb_reader.specs.Read.{read_of}
 use Rattle.cdb_reader.specs.Replies.{good}
-use Rattle.cdb_reader.specs.Request.{Request, Read, request_of}
-use Rattle.cdb_reader.specs.Request as request
+use Rattle.cdb_reader.specs.Request.{Request, request_of}
 use Rattle.sense_data.specs.Attentions.{Waiting}
 use Rattle.sense_data.specs.declared.sense.Sense.{Sense}
 use Rattle.history_replay.specs.Known.{state_of, duty_of, with_set}
@@ -26,24 +25,22 @@ use Rattle.drive_core.specs.declared.starting.First.{First}
 use Rattle.drive_core.specs.declared.starting.First.TheVariants as first_variant
 use Rattle.drive_core.specs.Starting.{IsWorkFor, BeginsBy, IsFirstBy, IsFirst}
 use Rattle.read_recovery.specs.Stages as progress
-use Rattle.read_recovery.proofs.Table.{plain_stage}
 use Rattle.mode_pages.specs.declared.settings.Settings.{Settings}
 use Rattle.history_replay.specs.declared.known.Known.{Known}
 use Rattle.geometry_map.specs.DefectMap.{DefectMap}
-use Rattle.platter_model.specs.Sector.{is_faulty}
-use Rattle.platter_model.specs.TrueLog.{is_off}
 use Rattle.sector_store.specs.State.{Contained}
 use Rattle.disk_base.specs.declared.command.DataOut.{DataOut}
 use Rattle.disk_base.specs.declared.command.DataOut.TheVariants.{Nothing}
+use Rattle.command_engine.specs.declared.step.Recovery.{Recovery}
 use Rattle.command_engine.specs.declared.step.Step.TheVariants.{Trying}
-use Rattle.command_engine.specs.Course.{Course, course_of, plan_without_blocks}
+use Rattle.command_engine.specs.Course.{Course}
 use Rattle.block_machine.specs.declared.entry.Entry.{Entry}
 use Rattle.block_machine.specs.declared.entry.Entry.TheVariants.{Started, Ended}
 use Rattle.block_machine.specs.declared.turn.Label.TheVariants.{Work}
 use Rattle.block_machine.specs.State.{State, Duty, initiator_of, owed_by}
 use Rattle.block_machine.specs.Steps.{begun, entry_after, waiting_after, waiting_at_start}
 use Rattle.block_machine.specs.Plans.{first_plan}
-use Rattle.block_machine.specs.Blocks.{Blocks, is_dirty}
+use Rattle.block_machine.specs.Blocks.{is_dirty}
 use Rattle.block_machine.specs.Deeds.{names_dirty}
 use Rattle.block_machine.specs.Entries.{entry_lawful}
 use Rattle.block_machine.specs.Turns.{owes_nothing_now}
@@ -54,16 +51,15 @@ use Rattle.drive_core.specs.declared.answer.TurnAnswer.TheVariants as answer
 use Rattle.drive_core.specs.declared.answer.Ended as told_end
 use Rattle.drive_core.specs.Ending.{ended_of_member}
 use Rattle.drive_core.specs.Evidence.{lba, IsEndShown, page_of}
-use Rattle.drive_core.specs.GoodTurn.{IsStood, WritesBlockData}
+use Rattle.drive_core.specs.GoodTurn.{WritesBlockData}
 use Rattle.drive_core.specs.Served.{is_served, is_served_plan}
 use Rattle.command_engine.specs.Need.{end_of}
-use Rattle.cdb_reader.specs.declared.plan.Reading as reading
-use Rattle.drive_core.specs.Scene.{Scene, capacity, scene_after, window_after, last_found}
+use Rattle.drive_core.specs.Scene.{Scene, capacity, scene_after, window_after}
 use Rattle.drive_core.specs.Able.{refusal_of_work, held_by_other, work_refused}
 use Rattle.drive_core.specs.Holds.{held_block, held_by_plan, needed_block}
 use Rattle.drive_core.specs.Accepting.{accepted_of, under_way, Replaces, Drops}
-use Rattle.drive_core.specs.Commands.{View, view, IsStaged, IsCommand, IsUnderWay, IsWaiting, IsWorking, IsAtBlock, IsTrying, IsOwnRange}
-use Rattle.drive_core.specs.Fits.{Fits, HasOps, IsCached, IsPresentMap, KnowsHistory}
+use Rattle.drive_core.specs.Commands.{View, view, IsStaged, IsCommand, IsUnderWay, IsWaiting, IsWorking, IsAtBlock, IsOwnRange}
+use Rattle.drive_core.specs.Fits.{Fits, IsCached, KnowsHistory}
 use Rattle.drive_core.specs.Moves.{Moves, MayWork, beat}
 use Rattle.drive_core.proofs.Tables.{put_at-own, put_at-other}
 use Rattle.drive_core.proofs.Keyed.{find-dropped_own, find-dropped_other}
@@ -73,7 +69,7 @@ use Rattle.drive_core.proofs.Halves.{end_lawful, over_owes}
 use Rattle.drive_core.proofs.Windows.{windows_work}
 use Rattle.drive_core.proofs.Parts.{cached_got, quiet_got}
 use Rattle.drive_core.proofs.Fitting.{known-told}
-use Rattle.drive_core.proofs.Closing.{has_ops}
+use Rattle.drive_core.proofs.Unmoved.{still_stands, has_same, none_added}
 use Rattle.drive_core.proofs.GetTurns.{begun-duty}
 use Rattle.drive_core.proofs.FirstPlans.{IsNoEnding, same_reply-own}
 
@@ -188,53 +184,24 @@ start_lawful s d c may =
     (ap (λ (o : Option Member). option_map_or (λ (m : Member). not m.started && is_none (first_forbidding s.hist.set m.task)) o false) may.is_in
     ∙ and_both (not may.m.started) (is_none (first_forbidding s.hist.set may.m.task)) (ap not may.waiting.started) (ap is_none may.free))
 
--- a read at its first block
-pub first_read : (v : View) (r : reading.Reading) (settings : Settings) → r.at < r.end → v.window ≡ [] → v.settings ≡ settings → v.holds_dirty ≡ false
-    → IsTrying v r (progress.begun settings.retry)
-first_read v r settings left window same clean = record {
-  left = left;
-  next = ap is_some (plain_stage settings.retry 0 (omega arith));
-  retry = sym (ap (λ (x : Settings). x.retry) same);
-  failed = λ k x below here. absurd (omega arith);
-  unfound = ap last_found window;
-  tried = ap length window;
-  clean = clean;
+-- the scene after a turn in which a command started and ended, with what each command has then
+abbrev pub ended_scene : Scene → ℕ → List Entry → (ℕ → Duty) → (ℕ → List Op) → (ℕ → Settings) → (ℕ → Option Recovery) → Scene
+ended_scene s c entries duties each_window settings recovered = record {
+  map = s.map;
+  ops = s.ops ++ [];
+  hist = record s.hist {
+    set = without (with_started s.hist.set c) c;
+    duties = duties;
+    waiting = waiting_at_start s.hist.waiting (initiator_of s.hist c) ((begun s.hist (Work c)).duties c);
+  };
+  windows = each_window;
+  settings = settings;
+  recovered = recovered;
+  since = s.since ++ [];
+  entries = s.entries ++ entries;
 }
 
--- what a scene has after a turn in which a command started and ended
-pub record IsStartedAndEnded (s t : Scene) (c : ℕ) (more : List Entry) : Type 0 where
-  pub map : t.map ≡ s.map
-  pub ops : t.ops ≡ s.ops ++ []
-  pub since : t.since ≡ s.since ++ []
-  pub entries : t.entries ≡ s.entries ++ more
-  pub order : t.hist.dirty ≡ s.hist.dirty
-  pub blocks : t.hist.blocks ≡ s.hist.blocks
-  pub settings : t.hist.settings ≡ s.hist.settings
-  pub waiting : t.hist.waiting ≡ waiting_at_start s.hist.waiting (initiator_of s.hist c) ((begun s.hist (Work c)).duties c)
-  pub corrupt : t.hist.corrupt ≡ s.hist.corrupt
-  pub scan : t.hist.scan ≡ s.hist.scan
-  pub set : t.hist.set ≡ without (with_started s.hist.set c) c
-  pub arrived : t.hist.arrived ≡ s.hist.arrived
-  pub alike : (q : ℕ) → q ≢ c → IsAlike s t q
-  pub windows : (q : ℕ) → length (t.windows q) ≤ 50
-
 module _ (s : Scene) (d e : Server) (c : ℕ) (is : IsStartOf s d e c) where
-  pub still_stands : IsStood s.map (s.ops ++ []) s.hist.blocks
-  still_stands = subst (λ (ops : List Op). IsStood s.map ops s.hist.blocks) (sym (append-nil s.ops)) is.fits.stands
-
-  store_present : IsPresentMap e.store.map e.store.platter.ops
-  store_present =
-      subst (λ (y : Contained). IsPresentMap y.map y.platter.ops) (sym is.store)
-      (subst (λ (n : DefectMap). IsPresentMap n d.store.platter.ops) (sym is.fits.store.map)
-      (subst (λ (ops : List Op). IsPresentMap s.map ops) (sym is.fits.store.ops) is.fits.store.present))
-
-  pub added : e.store.platter.ops ≡ d.store.platter.ops ++ []
-  added = ap (λ (y : Contained). y.platter.ops) is.store ∙ sym (append-nil d.store.platter.ops)
-
-  has : (t : Scene) → t.map ≡ s.map → t.ops ≡ s.ops ++ [] → HasOps t e.store
-  has t map_is ops_is = has_ops s t d.store e.store [] is.fits.store map_is ops_is (ap (λ (y : Contained). y.map) is.store) added
-      (ap (λ (y : Contained). y.platter.armed) is.store) (ap is_off (append-nil s.ops)) (λ p. ap (is_faulty p) (append-nil s.ops)) store_present
-
   cached : (t : Scene) (more : List Entry) → t.map ≡ s.map → t.ops ≡ s.ops ++ [] → t.since ≡ s.since ++ [] → t.entries ≡ s.entries ++ more
       → t.hist.dirty ≡ s.hist.dirty → t.hist.blocks ≡ s.hist.blocks → IsCached t e.store.cache
   cached t more map_is ops_is since_is entries_is order blocks_are =
@@ -254,30 +221,29 @@ module _ (s : Scene) (d e : Server) (c : ℕ) (is : IsStartOf s d e c) where
   windows entries = windows_work s c entries [] (omega (arith, ap length is.may.waiting.window)) is.fits.windows refl
 
   -- the parts of the drive after the command started and ended
-  pub fits_ended : (t : Scene) (more : List Entry) → IsStartedAndEnded s t c more → e.set ≡ without (with_started d.set c) c
-      → Drops d.commands.items e.commands.items c → Fits t e
-  fits_ended t more to set_is drops =
-      let gone : member_of t.hist.set c ≡ None = ap (λ (ms : List Member). member_of ms c) to.set ∙ find-dropped_own (λ (m : Member). m.task.c) c (with_started s.hist.set c) in
+  pub fits_ended : (entries : List Entry) (duties : ℕ → Duty) (each_window : ℕ → List Op) (settings : ℕ → Settings) (recovered : ℕ → Option Recovery)
+      → ((q : ℕ) → q ≢ c → IsAlike s (ended_scene s c entries duties each_window settings recovered) q) → ((q : ℕ) → length (each_window q) ≤ 50)
+      → e.set ≡ without (with_started d.set c) c → Drops d.commands.items e.commands.items c
+      → Fits (ended_scene s c entries duties each_window settings recovered) e
+  fits_ended entries duties each_window settings recovered alike short set_is drops =
+      let t : Scene = ended_scene s c entries duties each_window settings recovered in
+      let gone : member_of t.hist.set c ≡ None = find-dropped_own (λ (m : Member). m.task.c) c (with_started s.hist.set c) in
       record {
-        store = has t to.map to.ops;
-        cached = cached t more to.map to.ops to.since to.entries to.order to.blocks;
-        known = knows t to.map to.settings to.waiting to.corrupt to.scan;
+        store = has_same s d e is.fits is.store t refl refl;
+        cached = cached t entries refl refl refl refl refl refl;
+        known = knows t refl refl refl refl refl;
         tasks = record {
-          set = set_is ∙ (ap (λ (ms : List Member). without (with_started ms c) c) is.fits.tasks.set ∙ sym to.set);
-          arrived = is.arrived ∙ (is.fits.tasks.arrived ∙ sym to.arrived);
-          came = subst (λ (n : ℕ). All (λ (m : Member). m.task.c ≤ n) t.hist.set) (sym to.arrived)
-              (subst (λ (ms : List Member). All (λ (m : Member). m.task.c ≤ s.hist.arrived) ms) (sym to.set)
-              (All-filter _ (λ (m : Member). m.task.c ≤ s.hist.arrived) (with_started s.hist.set c) (All-started c s.hist.arrived s.hist.set is.fits.tasks.came)));
+          set = set_is ∙ ap (λ (ms : List Member). without (with_started ms c) c) is.fits.tasks.set;
+          arrived = is.arrived ∙ is.fits.tasks.arrived;
+          came = All-filter _ (λ (m : Member). m.task.c ≤ s.hist.arrived) (with_started s.hist.set c) (All-started c s.hist.arrived s.hist.set is.fits.tasks.came);
         };
         staged = all_staged t e.commands.items c
             (subst (λ (o : Option Accepted). IsStaged (view t c) o) (sym drops.own) gone)
-            (λ q other. staged-alike s t q (accepted_of d.commands.items q) (accepted_of e.commands.items q) (to.alike q other)
+            (λ q other. staged-alike s t q (accepted_of d.commands.items q) (accepted_of e.commands.items q) (alike q other)
             (drops.others q other) (is.fits.staged q));
-        apart = apart_none s t c is.fits.apart (λ q other. held-alike s t q (to.alike q other)) (held_out t c gone);
-        windows = to.windows;
-        stands = subst (λ (m : DefectMap). IsStood m t.ops t.hist.blocks) (sym to.map)
-            (subst (λ (ops : List Op). IsStood s.map ops t.hist.blocks) (sym to.ops)
-            (subst (λ (bs : Blocks). IsStood s.map (s.ops ++ []) bs) (sym to.blocks) still_stands));
+        apart = apart_none s t c is.fits.apart (λ q other. held-alike s t q (alike q other)) (held_out t c gone);
+        windows = short;
+        stands = still_stands s d e is.fits is.store;
       }
 
   -- the command that ended is told as the set had it
@@ -311,7 +277,7 @@ module _ (s : Scene) (d e : Server) (c : ℕ) (is : IsStartOf s d e c) where
       let M : List Entry → Option told_end.Ended → Type 0 = λ es o. Moves (Work c) s d e es o in
       let moves : M (Started c ∷ Ended c reply ∷ []) (ended_of_member (member_of s.hist.set c) reply) = record {
         ops = [];
-        added = added;
+        added = none_added s d e is.fits is.store;
         good = record {
           tasks = and_both _ _ (and_both true _ refl (and_both _ _ (start_lawful s d c is.may) (and_both _ true last refl)))
               (ap owes_nothing_now (over_owes (capacity s) h c reply));
@@ -323,24 +289,9 @@ module _ (s : Scene) (d e : Server) (c : ℕ) (is : IsStartOf s d e c) where
           own = and_both _ _ (eq-eqb c c refl) (and_both _ _ (eq-eqb c c refl) refl);
           window = windows (Started c ∷ Ended c reply ∷ []);
           held = λ q below about. absurd (cc);
-          stands = still_stands;
+          stands = still_stands s d e is.fits is.store;
         };
-        fits = fits_ended t (Started c ∷ Ended c reply ∷ []) (record {
-          map = refl;
-          ops = refl;
-          since = refl;
-          entries = refl;
-          order = refl;
-          blocks = refl;
-          settings = refl;
-          waiting = refl;
-          corrupt = refl;
-          scan = refl;
-          set = refl;
-          arrived = refl;
-          alike = alike;
-          windows = windows (Started c ∷ Ended c reply ∷ []);
-        }) set_is drops;
+        fits = fits_ended (Started c ∷ Ended c reply ∷ []) t.hist.duties t.windows t.settings t.recovered alike (windows (Started c ∷ Ended c reply ∷ [])) set_is drops;
         counted = omega (arith, is.arrived);
         ended = refl;
       } in
@@ -393,7 +344,7 @@ module _ (s : Scene) (d e : Server) (c : ℕ) (is : IsStartOf s d e c) where
       let M : List Entry → Option told_end.Ended → Type 0 = λ es o. Moves (Work c) s d e es o in
       let moves : M (Started c ∷ []) None = record {
         ops = [];
-        added = added;
+        added = none_added s d e is.fits is.store;
         good = record {
           tasks = and_both _ _ (and_both true _ refl (and_both _ true (start_lawful s d c is.may) refl)) (ap owes_nothing_now owes ∙ settled);
           blocks = λ none. refl;
@@ -404,10 +355,10 @@ module _ (s : Scene) (d e : Server) (c : ℕ) (is : IsStartOf s d e c) where
           own = and_both _ _ (eq-eqb c c refl) refl;
           window = windows (Started c ∷ []);
           held = λ q below about. absurd (cc);
-          stands = still_stands;
+          stands = still_stands s d e is.fits is.store;
         };
         fits = record {
-          store = has t refl refl;
+          store = has_same s d e is.fits is.store t refl refl;
           cached = cached t (Started c ∷ []) refl refl refl refl refl refl;
           known = knows t refl refl refl refl refl;
           tasks = record {
@@ -421,7 +372,7 @@ module _ (s : Scene) (d e : Server) (c : ℕ) (is : IsStartOf s d e c) where
               (replaces.others q other) (is.fits.staged q));
           apart = apart_none s t c is.fits.apart (λ q other. held-alike s t q (alike q other)) held;
           windows = windows (Started c ∷ []);
-          stands = still_stands;
+          stands = still_stands s d e is.fits is.store;
         };
         counted = omega (arith, is.arrived);
         ended = refl;

@@ -1,7 +1,6 @@
 -- How the turns of a sync move the drive.
-use Rattle.std.proofs.Common.{◌≡◌, ◌≢◌, ◌⊎◌, ℕ, ◌+◌, ◌<◌, ◌≤◌, Bool, true, false, not, cond, eqb, ltb, leb, List, [], ◌∷◌, ◌++◌, length, Option, Some, None, refl, sym, ap, ◌∙◌, subst, arith, ⊎_elim}
-use Rattle.std.specs.Prelude.{◌&&◌, ◌||◌, IsTrue, Result}
-use Rattle.std.specs.Option.{option_and_then, option_map_or}
+use Rattle.std.proofs.Common.{◌≡◌, ℕ, ◌+◌, ◌<◌, ◌≤◌, Bool, true, false, cond, ltb, List, [], ◌∷◌, ◌++◌, Option, Some, None, refl, sym, ap, ◌∙◌, subst, arith, ⊎_elim}
+use Rattle.std.specs.Prelude.{◌||◌, Result}
 use Rattle.std.proofs.lemmas.Bool.{eq-eqb, lt-ltb, le-leb, ltb-true, ltb-false, cases_Bool}
 use Rattle.disk_base.specs.declared.address.Lba.{Lba}
 use Rattle.platter_model.specs.declared.op.Op.{Op}
@@ -14,7 +13,6 @@ use Rattle.read_recovery.specs.Stages.{Progress, begun}
 use Rattle.cdb_reader.specs.Request.{Request}
 use Rattle.cdb_reader.specs.Replies.{good}
 use Rattle.cdb_reader.specs.declared.plan.Syncing as syncing
-use Rattle.cdb_reader.specs.declared.plan.Plan.{Plan}
 use Rattle.cdb_reader.specs.declared.plan.Plan.TheVariants.{Syncing, Over}
 use Rattle.cdb_reader.specs.declared.plan.Deed.TheVariants as deed
 use Rattle.cdb_reader.specs.Plan.{next}

@@ -1,20 +1,14 @@
 -- A turn of a sync, by what its cache finds dirty.
-use Rattle.std.proofs.Common.{◌≡◌, ◌≢◌, ◌⊎◌, ℕ, ◌+◌, ◌<◌, ◌≤◌, Bool, true, false, not, cond, eqb, ltb, leb, List, [], ◌∷◌, ◌++◌, Option, Some, None, IsSome, refl, sym, ap, ◌∙◌, subst, arith, append-nil}
-use Rattle.std.specs.Prelude.{◌&&◌, IsTrue}
-use Rattle.std.specs.Option.{option_map, option_and_then}
-use Rattle.std.proofs.lemmas.Bool.{lt-ltb, le-leb, ltb-true, ltb-false}
+use Rattle.std.proofs.Common.{◌≡◌, ℕ, ◌<◌, ◌≤◌, Bool, true, false, cond, ltb, leb, List, [], ◌∷◌, ◌++◌, Option, Some, None, refl, sym, ap, ◌∙◌, subst, arith}
+use Rattle.std.specs.Option.{option_and_then}
+use Rattle.std.proofs.lemmas.Bool.{lt-ltb, le-leb, ltb-true}
 use Rattle.disk_base.specs.declared.address.Lba.{Lba}
 use Rattle.disk_base.specs.declared.stage.Stage.{Stage}
-use Rattle.platter_model.specs.TrueLog.{is_off, strays}
-use Rattle.platter_model.specs.Sector.{is_faulty}
-use Rattle.mode_pages.specs.declared.settings.Settings.{Settings}
 use Rattle.sense_data.specs.declared.reply.Reply.{Reply}
-use Rattle.task_set.specs.declared.member.Member.{Member}
 use Rattle.task_set.specs.Members.{member_of}
 use Rattle.read_recovery.specs.Stages.{Progress, next_stage}
-use Rattle.write_cache.specs.Contents.{newest, dirty_within, IsLeast}
+use Rattle.write_cache.specs.Contents.{dirty_within, IsLeast}
 use Rattle.sector_store.specs.State.{Contained}
-use Rattle.sector_store.specs.Stored.{stored}
 use Rattle.cdb_reader.specs.Replies.{good}
 use Rattle.cdb_reader.specs.declared.plan.Reading as reading
 use Rattle.cdb_reader.specs.declared.plan.Writing as writing
@@ -27,40 +21,37 @@ use Rattle.command_engine.specs.declared.need.Need.TheVariants as need
 use Rattle.command_engine.specs.declared.step.Step.{Step}
 use Rattle.command_engine.specs.declared.step.Step.TheVariants.{Trying, Hardening, Faulted}
 use Rattle.command_engine.specs.Course.{Course}
-use Rattle.command_engine.specs.Need.{need_of, need_by, taking, need_at_read, need_at_write, end_of}
+use Rattle.command_engine.specs.Need.{need_of, need_by, taking, need_at_read, end_of}
 use Rattle.command_engine.specs.Ending.{ending_of}
-use Rattle.command_engine.specs.Answers.{fits, fits_need, after, is_hardened}
+use Rattle.command_engine.specs.Answers.{fits_need, after, is_hardened}
 use Rattle.block_machine.specs.declared.entry.Entry.{Entry}
 use Rattle.block_machine.specs.declared.entry.Entry.TheVariants.{Passed, Ended}
 use Rattle.block_machine.specs.declared.turn.Label.TheVariants.{Work}
-use Rattle.block_machine.specs.Blocks.{none_dirty, is_dirty}
-use Rattle.block_machine.specs.Blocks as blocks
+use Rattle.block_machine.specs.Blocks.{none_dirty}
 use Rattle.block_machine.specs.Deeds.{names_dirty}
-use Rattle.block_machine.specs.State.{State, owed_by}
-use Rattle.block_machine.specs.Steps.{entry_after}
 use Rattle.block_machine.proofs.Booleans.{and_both}
 use Rattle.drive_core.specs.declared.accepted.Accepted.{Accepted}
 use Rattle.drive_core.specs.declared.server.Server.{Server}
 use Rattle.drive_core.specs.declared.answer.Ended as told_end
 use Rattle.drive_core.specs.Scene.{Scene, capacity}
-use Rattle.drive_core.specs.Holds.{needed_block, needed_by_plan}
+use Rattle.drive_core.specs.Holds.{needed_by_plan}
 use Rattle.drive_core.specs.Accepting.{accepted_of, under_way, Replaces}
 use Rattle.drive_core.specs.Ending.{ended_of_member}
 use Rattle.drive_core.specs.Evidence.{lba}
-use Rattle.drive_core.specs.Commands.{view, IsWorking}
-use Rattle.drive_core.specs.Fits.{Fits, IsPresentMap, IsCached}
+use Rattle.drive_core.specs.Fits.{Fits, IsCached}
 use Rattle.drive_core.specs.Hardening.{MayHardenFor, passed_to, done_before}
-use Rattle.drive_core.specs.Moves.{Moves, MayWork, Leaves, beat}
+use Rattle.drive_core.specs.Moves.{Moves, MayWork, Leaves}
 use Rattle.drive_core.specs.Syncing.{Needs}
 use Rattle.drive_core.proofs.Halves.{Half, ends}
-use Rattle.drive_core.proofs.Fitting.{after_end, fits_end, reached-end}
-use Rattle.drive_core.proofs.Parts.{IsGotOnly, cached_got}
-use Rattle.drive_core.proofs.Closing.{Stops, has_ops, moves_end}
+use Rattle.drive_core.proofs.Fitting.{after_end, fits_end}
+use Rattle.drive_core.proofs.Parts.{IsGotOnly, cached_got, quiet_got}
+use Rattle.drive_core.proofs.Unmoved.{has_same, none_added}
+use Rattle.drive_core.proofs.Closing.{Stops, moves_end}
 use Rattle.drive_core.proofs.FirstDirty.{IsFirstDirty, least_of_cache, first_dirty-is, none_of_cache, none_dirty-before, within_there}
 use Rattle.drive_core.proofs.MetMoves.{owed_is}
 use Rattle.drive_core.proofs.PassTurns.{half_passed, passed_state}
 use Rattle.drive_core.proofs.SyncMoves.{next-passed, next-synced}
-use Rattle.drive_core.proofs.TakeTurns.{GivenBy, given_by, WorksAt, works_at, StandsAt, stands_at}
+use Rattle.drive_core.proofs.TakeTurns.{GivenBy, given_by, WorksAt, works_at, StandsAt, stands_in}
 use Rattle.drive_core.proofs.Hardens.{stops_of}
 
 -- a sync that needs the next dirty block
@@ -122,8 +113,7 @@ pub may_harden : (s : Scene) (d : Server) (c : ℕ) (from to b : Lba) (entries :
 may_harden s d c from to b entries may needs least entries_are =
     let given : GivenBy need_of (under_way d.commands.items c) (need.Pass from to) = given_by need_of (under_way d.commands.items c) (need.Pass from to) needs in
     let w : Course = given.x in
-    let at : WorksAt (accepted_of d.commands.items c) given.x = works_at (accepted_of d.commands.items c) given.x given.is in
-    let stands : StandsAt s c given.x = stands_at s c (accepted_of d.commands.items c) at.a given.x at.is at.works (may.fits.staged c) in
+    let stands : StandsAt s c given.x = stands_in s d c given.x may.fits given.is in
     let pass : NeedsPass w.plan w.step from to = needs_pass w.plan w.step from to given.gives in
     let first : IsFirstDirty s.hist.blocks from.0 to.0 b.0 = least_of_cache s.hist.blocks d.store.cache from to b may.fits.cached.dirty least in
     let fit : fits_need w.settings.awre (is_hardened w.plan) (need.Pass from to) (NextDirty (Some b)) ≡ true =
@@ -163,7 +153,7 @@ passes_all s d mid e c from to entries reply told may needs none store set arriv
     let given : GivenBy need_of (under_way d.commands.items c) (need.Pass from to) = given_by need_of (under_way d.commands.items c) (need.Pass from to) needs in
     let w : Course = given.x in
     let at : WorksAt (accepted_of d.commands.items c) given.x = works_at (accepted_of d.commands.items c) given.x given.is in
-    let stands : StandsAt s c given.x = stands_at s c (accepted_of d.commands.items c) at.a given.x at.is at.works (may.fits.staged c) in
+    let stands : StandsAt s c given.x = stands_in s d c given.x may.fits given.is in
     let pass : NeedsPass w.plan w.step from to = needs_pass w.plan w.step from to given.gives in
     let y : syncing.Syncing = pass.y in
     let done : syncing.Syncing = record pass.y { at = to.0 } in
@@ -185,31 +175,14 @@ passes_all s d mid e c from to entries reply told may needs none store set arriv
     stops_of d mid e c (record at.a { work = Some (after w (NextDirty None)) }) good (Passed c from to ∷ []) entries told set arrived known
     (replaces at.a w at.is at.works) closed.0 closed.1 closed.2 in
     let kept : e.store ≡ d.store = closed.0.store ∙ store in
-    let added : e.store.platter.ops ≡ d.store.platter.ops ++ [] = ap (λ (x : Contained). x.platter.ops) kept ∙ sym (append-nil d.store.platter.ops) in
     let t : Scene = after_end s c [] (Passed c from to ∷ []) good in
-    let reached : t.hist ≡ entry_after (capacity s) (Work c) (passed_state s c from to) (Ended c good) =
-    reached-end s c [] (Passed c from to ∷ []) (passed_state s c from to) (Syncing (record pass.y { at = to.0 })) good half in
-    let here : IsPresentMap e.store.map e.store.platter.ops =
-    subst (λ (x : Contained). IsPresentMap x.map x.platter.ops) (sym kept)
-    (subst (λ m. IsPresentMap m d.store.platter.ops) (sym fits.store.map) (subst (λ ops. IsPresentMap s.map ops) (sym fits.store.ops) fits.store.present)) in
-    let got : IsGotOnly s (after_end s c [] (Passed c from to ∷ []) good) = record {
-      map = refl;
-      newest = λ n. refl;
-      dirty = λ n. refl;
-      order = refl;
-      more_entries = Passed c from to ∷ Ended c good ∷ [];
-      entries = refl;
-      more_ops = [];
-      since = refl;
-      unstrayed = λ none_then. ap strays (sym (append-nil s.ops)) ∙ none_then;
-      kept = λ q. ap (λ ops. stored s.map ops q) (append-nil s.ops);
-    } in
+    let got : IsGotOnly s (after_end s c [] (Passed c from to ∷ []) good) =
+    quiet_got s (after_end s c [] (Passed c from to ∷ []) good) (Passed c from to ∷ Ended c good ∷ []) refl refl refl refl refl refl in
     moves_end s c [] (Passed c from to ∷ []) entries (passed_state s c from to) (Syncing (record pass.y { at = to.0 })) d e good told half
     (ends s c [] (Passed c from to ∷ []) (passed_state s c from to) (Syncing (record pass.y { at = to.0 })) Over good d fits half
     (next-synced (record pass.y { at = to.0 }) (names_dirty (passed_state s c from to) good) to_is) refl (λ more. absurd (omega (arith, more, to_is))))
     (fits_end s c [] (Passed c from to ∷ []) (passed_state s c from to) (Syncing (record pass.y { at = to.0 })) good d e half fits stops.left
-    (has_ops s t d.store e.store [] fits.store refl refl (ap (λ (x : Contained). x.map) kept) added (ap (λ (x : Contained). x.platter.armed) kept)
-    (ap is_off (append-nil s.ops)) (λ p. ap (is_faulty p) (append-nil s.ops)) here)
+    (has_same s d e fits kept t refl refl)
     (subst (λ (x : Contained). IsCached (after_end s c [] (Passed c from to ∷ []) good) x.cache) (sym kept)
     (cached_got s (after_end s c [] (Passed c from to ∷ []) good) d.store.cache got fits.cached)))
-    stops fits added refl
+    stops fits (none_added s d e fits kept) refl

@@ -1,8 +1,8 @@
 -- A turn of work on a command that needs a block's value.
 use Rattle.std.proofs.Common.{◌≡◌, ℕ, ◌<◌, Bool, true, false, cond, eqb, ltb, List, [], ◌∷◌, ◌++◌, length, Option, Some, None, refl, sym, ap, ◌∙◌, subst, ⊎_elim, arith}
 use Rattle.std.specs.Option.{option_and_then, option_map, option_map_or, is_some}
-use Rattle.std.specs.Prelude.{◌^◌, ◌&&◌, ◌||◌, IsTrue, not, slice_get, pos}
-use Rattle.std.proofs.lemmas.Bool.{ltb-true, lt-ltb, not-true, eqb-true, cases_Bool, true≢false}
+use Rattle.std.specs.Prelude.{◌^◌, ◌&&◌, ◌||◌, not, slice_get, pos}
+use Rattle.std.proofs.lemmas.Bool.{ltb-true, lt-ltb, eqb-true, cases_Bool, true≢false}
 use Rattle.disk_base.specs.declared.block.Value.TheVariants.{Data}
 use Rattle.disk_base.specs.declared.stage.How.TheVariants.{Light}
 use Rattle.read_recovery.proofs.Table.{plain_stage}
@@ -14,12 +14,12 @@ use Rattle.sector_store.specs.Stored.{KeepsBlocks}
 use Rattle.sector_store.specs.State.{Contained, IsStore}
 use Rattle.geometry_map.specs.Laws.{BlocksHaveOwnSectors}
 use Rattle.drive_core.specs.Ending.{ended_of_member}
+use Rattle.drive_core.proofs.AtBlock.{at_block}
 use Rattle.drive_core.proofs.Windows.{empty_tried}
 use Rattle.drive_core.proofs.Gets.{newest_undirty}
 use Rattle.drive_core.proofs.Tries.{next_stage-at}
 use Rattle.disk_base.specs.declared.address.Lba.{Lba}
 use Rattle.disk_base.specs.declared.stage.Stage.{Stage}
-use Rattle.mode_pages.specs.declared.settings.Settings.{Settings}
 use Rattle.sense_data.specs.declared.reply.Reply.{Reply}
 use Rattle.task_set.specs.declared.member.Member.{Member}
 use Rattle.task_set.specs.Members.{member_of}
@@ -35,7 +35,7 @@ use Rattle.command_engine.specs.declared.need.Need.TheVariants as need
 use Rattle.command_engine.specs.declared.step.Step.{Step}
 use Rattle.command_engine.specs.declared.step.Step.TheVariants.{Trying, Hardening, Faulted}
 use Rattle.command_engine.specs.Course.{Course}
-use Rattle.command_engine.specs.Need.{need_of, need_by, need_at_read, taking}
+use Rattle.command_engine.specs.Need.{need_by, need_at_read, taking}
 use Rattle.command_engine.specs.Ending.{ending_of}
 use Rattle.command_engine.specs.Standing.{IsCourse}
 use Rattle.command_engine.specs.Answers.{after}
@@ -52,7 +52,6 @@ use Rattle.drive_core.specs.Scene.{Scene}
 use Rattle.drive_core.specs.declared.answer.TurnAnswer.TheVariants as answer
 use Rattle.drive_core.specs.declared.event.Holder.TheVariants as holder
 use Rattle.task_set.specs.Members.{first_forbidding}
-use Rattle.drive_core.specs.Served.{is_served_plan}
 use Rattle.drive_core.specs.Holds.{holder_besides, held_by_plan, held_block, needed_by_plan, needed_block}
 use Rattle.drive_core.specs.Able.{refusal_of_work, held_by_other, work_refused}
 use Rattle.drive_core.specs.Accepting.{accepted_of, under_way, errand_of, Replaces}
@@ -62,7 +61,7 @@ use Rattle.drive_core.specs.Fits.{IsPresentMap, Fits}
 use Rattle.drive_core.specs.Moves.{Moves, MayWork, Leaves}
 use Rattle.drive_core.specs.Taking.{IsSought, value_got, got_entries, errand_for, may_be_dirty}
 use Rattle.drive_core.proofs.Closing.{Goes, Stops, present_after}
-use Rattle.drive_core.proofs.Found.{OwnPlaces, IsMade, whatever, sought}
+use Rattle.drive_core.proofs.Found.{OwnPlaces, whatever, sought}
 use Rattle.drive_core.proofs.ReadTurns.{course}
 
 -- a read that needs the value of a block
@@ -162,6 +161,12 @@ stands_at s c o a w is works staged =
       working = subst (λ (x : Option Course). IsUnderWay (view s c) command.member a x) works command.under_way;
     }
 
+-- where a command that is under way stands
+pub stands_in : (s : Scene) (d : Server) (c : ℕ) (w : Course) → Fits s d → under_way d.commands.items c ≡ Some w → StandsAt s c w
+stands_in s d c w fits is =
+    let at : WorksAt (accepted_of d.commands.items c) w = works_at (accepted_of d.commands.items c) w is in
+    stands_at s c (accepted_of d.commands.items c) at.a w at.is at.works (fits.staged c)
+
 -- nobody else holds the block of a turn that isn't refused
 not_held : (s : Scene) (b : ℕ) (o : Option ℕ) → option_map (λ other. answer.Held (lba b) (holder.Command other)) o ≡ None → o ≡ None
 not_held s b None none = refl
@@ -195,7 +200,7 @@ takes s d e c q answer reply entries told may errand is present once own keeps l
     let given : GivenBy errand_of (under_way d.commands.items c) (errand_for q) = given_by errand_of (under_way d.commands.items c) (errand_for q) errand in
     let w : Course = given.x in
     let at : WorksAt (accepted_of d.commands.items c) given.x = works_at (accepted_of d.commands.items c) given.x given.is in
-    let stands : StandsAt s c given.x = stands_at s c (accepted_of d.commands.items c) at.a given.x at.is at.works (may.fits.staged c) in
+    let stands : StandsAt s c given.x = stands_in s d c given.x may.fits given.is in
     let value : NeedsValue w.plan w.step q.b q.medium q.stage = needs_value w.plan w.step q.b q.medium q.stage (ap (λ (x : Errand). x.need) given.gives) in
     let settings : w.settings ≡ q.settings = ap (λ (x : Errand). x.settings) given.gives in
     let gives : q.gives ≡ w.gives = sym (ap (λ (x : Errand). x.gives) given.gives) in
@@ -247,7 +252,7 @@ read_at s d c q fits errand =
       a = at.a;
       a_is = at.is;
       works = at.works;
-      stands = stands_at s c (accepted_of d.commands.items c) at.a given.x at.is at.works (fits.staged c);
+      stands = stands_in s d c given.x fits given.is;
       value = needs_value given.x.plan given.x.step q.b q.medium q.stage (ap (λ (x : Errand). x.need) given.gives);
     }
 
@@ -370,29 +375,16 @@ put_next b true = tt
 put_next b false = tt
 
 needs_by : (v : View) (plan : Plan) (step : Step) → IsAtBlock v plan step → IsServedNeed (need_by plan step)
-needs_by v (Reading r) (Trying p) at =
-    subst (λ (b : Bool). IsServedNeed (cond b (taking r (next_stage p)) need.Nothing)) (sym (lt-ltb r.at r.end at.left)) (value_next r (next_stage p) at.next)
-needs_by v (Writing w) (Trying p) at =
-    subst (λ (b : Bool). IsServedNeed (cond b (cond w.through (need.PutThrough (lba w.at)) (need.Put (lba w.at))) need.Nothing)) (sym (lt-ltb w.at w.end at.1))
-    (put_next (lba w.at) w.through)
-needs_by v (Syncing y) (Trying p) at =
-    subst (λ (b : Bool). IsServedNeed (cond b (need.Pass (lba y.at) (lba y.end)) need.Nothing)) (sym (lt-ltb y.at y.end at.1)) tt
-needs_by v (Reading r) Hardening at = absurd at
-needs_by v (Reading r) Faulted at = absurd at
-needs_by v (Writing w) Hardening at = absurd at
-needs_by v (Writing w) Faulted at = absurd at
-needs_by v (Syncing y) Hardening at = absurd at
-needs_by v (Syncing y) Faulted at = absurd at
-needs_by v (Ending reply) step at = absurd at
-needs_by v (Unread b) step at = absurd at
-needs_by v (Answering bytes reply) step at = absurd at
-needs_by v Changing step at = absurd at
-needs_by v (Moving x) step at = absurd at
-needs_by v Over step at = absurd at
+needs_by v plan step at =
+    at_block v (λ plan step. IsServedNeed (need_by plan step))
+    (λ r p trying. subst (λ (b : Bool). IsServedNeed (cond b (taking r (next_stage p)) need.Nothing)) (sym (lt-ltb r.at r.end trying.left))
+    (value_next r (next_stage p) trying.next))
+    (λ w p left. subst (λ (b : Bool). IsServedNeed (cond b (cond w.through (need.PutThrough (lba w.at)) (need.Put (lba w.at))) need.Nothing)) (sym (lt-ltb w.at w.end left.1))
+    (put_next (lba w.at) w.through))
+    (λ y p left. subst (λ (b : Bool). IsServedNeed (cond b (need.Pass (lba y.at) (lba y.end)) need.Nothing)) (sym (lt-ltb y.at y.end left.1)) tt) plan step at
 
 pub needs_what_is_served : (s : Scene) (d : Server) (c : ℕ) (e : Errand) → Fits s d → option_map errand_of (under_way d.commands.items c) ≡ Some e → IsServedNeed e.need
 needs_what_is_served s d c e fits errand =
     let given : GivenBy errand_of (under_way d.commands.items c) e = given_by errand_of (under_way d.commands.items c) e errand in
-    let at : WorksAt (accepted_of d.commands.items c) given.x = works_at (accepted_of d.commands.items c) given.x given.is in
-    let stands : StandsAt s c given.x = stands_at s c (accepted_of d.commands.items c) at.a given.x at.is at.works (fits.staged c) in
+    let stands : StandsAt s c given.x = stands_in s d c given.x fits given.is in
     subst IsServedNeed (ap (λ (x : Errand). x.need) given.gives) (needs_by (view s c) given.x.plan given.x.step stands.working.at_block)

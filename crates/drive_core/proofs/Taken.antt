@@ -1,8 +1,8 @@
 -- A turn of a read moves the parts of a drive, whatever it finds.
-use Rattle.std.proofs.Common.{◌≡◌, ◌≢◌, ℕ, ◌+◌, ◌<◌, ◌≤◌, Bool, true, false, not, cond, eqb, ltb, List, [], ◌∷◌, ◌++◌, length, Option, Some, None, refl, sym, ap, ◌∙◌, subst, arith, ⊎_elim, ◌⊎◌, inl, inr, append-nil}
-use Rattle.std.specs.Prelude.{◌&&◌, ◌||◌, slice_get, IsTrue, Result}
-use Rattle.std.specs.Option.{option_map, is_none, is_some}
-use Rattle.std.proofs.lemmas.Bool.{eq-eqb, ne_eqb, eqb-true, lt-ltb, ltb-true, ltb-false, or_right, cases_Bool, cases_eq}
+use Rattle.std.proofs.Common.{◌≡◌, ℕ, ◌+◌, ◌<◌, Bool, true, false, not, cond, eqb, ltb, List, [], ◌∷◌, ◌++◌, length, Option, Some, None, refl, sym, ap, ◌∙◌, subst, arith, ⊎_elim, ◌⊎◌}
+use Rattle.std.specs.Prelude.{◌&&◌}
+use Rattle.std.specs.Option.{is_none}
+use Rattle.std.proofs.lemmas.Bool.{lt-ltb, ltb-true, ltb-false, or_right, cases_Bool, cases_eq}
 use Rattle.disk_base.specs.At.{put_at}
 use Rattle.disk_base.specs.declared.address.Lba.{Lba}
 use Rattle.disk_base.specs.declared.block.Value.{Value}
@@ -12,13 +12,12 @@ use Rattle.platter_model.specs.declared.op.Op.{Op}
 use Rattle.platter_model.specs.TrueLog.{strays}
 use Rattle.mode_pages.specs.declared.settings.Settings.{Settings}
 use Rattle.sense_data.specs.declared.reply.Reply.{Reply}
-use Rattle.geometry_map.specs.DefectMap.{DefectMap, place_of}
+use Rattle.geometry_map.specs.DefectMap.{place_of}
 use Rattle.task_set.specs.declared.member.Member.{Member}
 use Rattle.task_set.specs.Members.{member_of}
 use Rattle.read_recovery.specs.Stages.{Progress, begun, next_stage, answered}
 use Rattle.sector_store.specs.Shapes.{try_of}
 use Rattle.sector_store.specs.Stored.{stored}
-use Rattle.sector_store.specs.State.{Contained}
 use Rattle.cdb_reader.specs.Replies.{unrecovered_read}
 use Rattle.cdb_reader.specs.declared.plan.Reading as reading
 use Rattle.cdb_reader.specs.declared.plan.Plan.{Plan}
@@ -41,7 +40,6 @@ use Rattle.block_machine.specs.declared.entry.Entry.TheVariants.{Get, Ended}
 use Rattle.block_machine.specs.declared.turn.Label.TheVariants.{Work}
 use Rattle.block_machine.specs.Blocks.{Blocks, is_dirty, may_get, after_get}
 use Rattle.block_machine.specs.Blocks as blocks
-use Rattle.block_machine.specs.State.{State, Duty}
 use Rattle.block_machine.specs.Steps as steps
 use Rattle.block_machine.specs.Deeds.{names_dirty}
 use Rattle.block_machine.specs.Entries.{ends_as_told}
@@ -50,7 +48,6 @@ use Rattle.drive_core.specs.declared.server.Server.{Server}
 use Rattle.drive_core.specs.declared.answer.Ended as told_end
 use Rattle.drive_core.specs.Scene.{Scene, capacity, last_found}
 use Rattle.drive_core.specs.Holds.{held_by_plan, holder_besides}
-use Rattle.drive_core.specs.Accepting.{accepted_of}
 use Rattle.drive_core.specs.Evidence.{lba, IsEndShown, IsGotShown}
 use Rattle.drive_core.specs.Commands.{view, IsWorking, IsOwnRecovery}
 use Rattle.drive_core.specs.Fits.{IsPresentMap, HasOps, IsCached, Fits}

@@ -1,6 +1,6 @@
 -- A read whose values come from the medium meets a dirty block.
-use Rattle.std.proofs.Common.{◌≡◌, ℕ, ◌<◌, Bool, true, false, not, cond, eqb, List, [], length, Option, Some, None, IsSome, refl, sym, ap, ◌∙◌, subst}
-use Rattle.std.specs.Prelude.{◌&&◌, ◌||◌, IsTrue}
+use Rattle.std.proofs.Common.{◌≡◌, ℕ, Bool, true, false, not, cond, eqb, List, [], length, Option, Some, None, IsSome, refl, sym, ap, ◌∙◌, subst}
+use Rattle.std.specs.Prelude.{◌||◌}
 use Rattle.std.specs.Option.{option_map, option_map_or, option_and_then}
 use Rattle.std.proofs.lemmas.Bool.{eq-eqb, lt-ltb, true≢false}
 use Rattle.disk_base.specs.declared.address.Lba.{Lba}
@@ -10,7 +10,6 @@ use Rattle.cdb_reader.specs.declared.plan.Reading as reading
 use Rattle.cdb_reader.specs.declared.plan.Plan.{Plan}
 use Rattle.cdb_reader.specs.declared.plan.Plan.TheVariants.{Reading}
 use Rattle.command_engine.specs.declared.answer.Answer.TheVariants.{NextDirty}
-use Rattle.command_engine.specs.declared.need.Need.{Need}
 use Rattle.command_engine.specs.declared.need.Need.TheVariants as need
 use Rattle.command_engine.specs.declared.step.Step.{Step}
 use Rattle.command_engine.specs.Course.{Course}
@@ -24,10 +23,9 @@ use Rattle.drive_core.specs.declared.accepted.Errand.{Errand}
 use Rattle.drive_core.specs.declared.server.Server.{Server}
 use Rattle.drive_core.specs.declared.taking.Sought.{Sought}
 use Rattle.drive_core.specs.Scene.{Scene}
-use Rattle.drive_core.specs.Holds.{held_block, held_by_plan, needed_block, needed_by_plan}
+use Rattle.drive_core.specs.Holds.{held_block, held_by_plan, needed_by_plan}
 use Rattle.drive_core.specs.Accepting.{under_way, errand_of}
 use Rattle.drive_core.specs.Commands.{view, IsAtBlock, IsTrying}
-use Rattle.drive_core.specs.Evidence.{lba}
 use Rattle.drive_core.specs.Hardening.{MayHardenFor, done_before}
 use Rattle.drive_core.specs.Moves.{MayWork}
 use Rattle.drive_core.specs.Taking.{errand_for}

@@ -1,5 +1,5 @@
 -- The data of the block that a command puts next.
-use Rattle.std.proofs.Common.{◌≡◌, ℕ, ◌<◌, Bool, true, List, Option, Some, None, refl, sym, ap, ◌∙◌, subst, get_or}
+use Rattle.std.proofs.Common.{◌≡◌, ℕ, Bool, true, List, Option, Some, None, sym, ap, ◌∙◌, subst, get_or}
 use Rattle.std.specs.Prelude.{IsTrue, IsSomeAnd, position}
 use Rattle.std.specs.Option.{option_map}
 use Rattle.std.proofs.lemmas.Bool.{lt-ltb}
@@ -8,13 +8,12 @@ use Rattle.command_engine.specs.declared.need.Need.{Need}
 use Rattle.command_engine.specs.Course.{Course, next_block, puts_next}
 use Rattle.command_engine.specs.Need.{need_of}
 use Rattle.command_engine.specs.Standing.{IsCourse}
-use Rattle.cdb_reader.specs.declared.plan.Plan.{Plan}
 use Rattle.drive_core.specs.declared.accepted.Accepted.{Accepted}
 use Rattle.drive_core.specs.declared.accepted.Errand.{Errand}
 use Rattle.drive_core.specs.Accepting.{under_way, errand_of, is_numbered}
 use Rattle.drive_core.specs.Putting.{NeedsPut}
 use Rattle.drive_core.specs.Syncing.{Needs}
-use Rattle.drive_core.proofs.Placing.{placed, under_way-there, under_way-nowhere}
+use Rattle.drive_core.proofs.Placing.{under_way-there, under_way-nowhere}
 use Rattle.drive_core.proofs.TakeTurns.{GivenBy, given_by}
 use Rattle.drive_core.proofs.WriteTurns.{put_need, IsWriteNeed, write_need}
 

@@ -1,29 +1,26 @@
 -- What a window shows with one try more.
-use Rattle.std.proofs.Common.{◌≡◌, ℕ, suc, ◌+◌, ◌-◌, ◌<◌, ◌≤◌, Bool, true, false, cond, List, [], ◌∷◌, ◌++◌, length, Option, Some, None, refl, sym, ap, ◌∙◌, subst, arith, length-append, append_assoc, add-one, ⊎_elim, inl, inr, get_or}
+use Rattle.std.proofs.Common.{◌≡◌, ℕ, ◌+◌, ◌-◌, ◌<◌, ◌≤◌, Bool, true, false, cond, List, [], ◌∷◌, ◌++◌, length, Option, Some, None, refl, ap, ◌∙◌, subst, arith, length-append, append_assoc, ⊎_elim, inl, get_or}
 use Rattle.std.specs.Prelude.{slice_get, Contains}
 use Rattle.std.specs.Option.{is_none, option_and_then}
 use Rattle.std.proofs.lemmas.Bool.{cases_lt}
-use Rattle.std.proofs.lemmas.Option.{slice_get-get_or, slice_get_past, slice_get_within}
+use Rattle.std.proofs.lemmas.Option.{slice_get-get_or, slice_get_within}
 use Rattle.std.proofs.lemmas.List.{get_or-append-add}
 use Rattle.std.proofs.lemmas.List.Elements.{Contains-append_left, Contains-append_right}
-use Rattle.std.proofs.lemmas.List.Sums.{fold-append}
 use Rattle.disk_base.specs.declared.address.Lba.{Lba}
 use Rattle.disk_base.specs.declared.address.Psn.{Psn}
 use Rattle.disk_base.specs.declared.block.Value.{Value}
-use Rattle.disk_base.specs.declared.block.Value.TheVariants.{Data, Lost}
 use Rattle.disk_base.specs.declared.payload.Payload.{Payload}
 use Rattle.disk_base.specs.declared.stage.Stage.{Stage}
 use Rattle.disk_base.specs.Payload.{value_for}
 use Rattle.platter_model.specs.declared.op.Op.{Op}
 use Rattle.platter_model.specs.declared.op.Op.TheVariants.{Fetched, Tried}
-use Rattle.platter_model.specs.State.{State}
-use Rattle.platter_model.specs.TrueLog.{attempt_of, strays, strays_from, is_stray}
+use Rattle.platter_model.specs.State.{State, tried}
+use Rattle.platter_model.specs.TrueLog.{attempt_of, strays, strays_from}
 use Rattle.read_recovery.specs.Stages.{Progress, stages_of, next_stage, answered}
 use Rattle.sector_store.specs.Shapes.{try_of}
-use Rattle.sector_store.specs.State.{tried}
 use Rattle.sector_store.specs.Tries.{FoundNothing, FoundValue}
 use Rattle.drive_core.specs.Scene.{last_found, stage_that_found}
-use Rattle.drive_core.specs.Evidence.{FailedBelow, FoundByStages, FoundNowhere}
+use Rattle.drive_core.specs.Evidence.{FailedBelow, FoundNowhere}
 
 -- operations of a try, behind those before
 pub tried_ops : (x : State) (p : Psn) (stage : Stage) (found : Option Payload) → (tried x p stage found).ops ≡ x.ops ++ try_of (length x.ops) p stage found

@@ -11,9 +11,7 @@ use Rattle.platter_model.specs.declared.op.Op.TheVariants.{Fetched, Tried, Torn,
 use Rattle.read_recovery.specs.Stages.{Progress, stages_of, next_stage}
 use Rattle.read_recovery.proofs.Table.{past_table}
 use Rattle.cdb_reader.specs.declared.plan.Plan.{Plan}
-use Rattle.cdb_reader.specs.declared.plan.Plan.TheVariants.{Ending, Unread, Answering, Changing, Reading, Writing, Syncing, Moving, Over}
 use Rattle.command_engine.specs.declared.step.Step.{Step}
-use Rattle.command_engine.specs.declared.step.Step.TheVariants.{Trying, Hardening, Faulted}
 use Rattle.command_engine.specs.Course.{Course}
 use Rattle.task_set.specs.declared.member.Member.{Member}
 use Rattle.block_machine.specs.declared.entry.Entry.{Entry}
@@ -23,6 +21,7 @@ use Rattle.drive_core.specs.Scene.{Scene, scene_after, opens_window, window_afte
 use Rattle.drive_core.specs.GoodTurn.{is_one_step}
 use Rattle.drive_core.specs.Commands.{View, IsAtBlock, IsUnderWay, IsStaged}
 use Rattle.drive_core.specs.Moves.{beat}
+use Rattle.drive_core.proofs.AtBlock.{at_block}
 use Rattle.drive_core.proofs.Tables.{put_at-own, put_at-other}
 use Rattle.drive_core.proofs.Tries.{next_stage-at}
 
@@ -45,23 +44,11 @@ failed_few p some few = by (next_stage p) refl some
 
 -- a command at a block has the tries of the stages that failed in its window
 window_at : (v : View) (plan : Plan) (step : Step) → IsAtBlock v plan step → v.settings.retry ≤ 20 → length v.window ≤ 48
-window_at v (Reading r) (Trying p) at few =
-    let failed : p.failed ≤ 24 = failed_few p at.next (subst (λ (n : ℕ). n ≤ 20) (sym at.retry) few) in
-    omega (arith, at.tried)
-window_at v (Writing w) (Trying p) at few = omega (arith, ap length at.0)
-window_at v (Syncing y) (Trying p) at few = omega (arith, ap length at.0)
-window_at v (Reading r) Hardening at few = absurd at
-window_at v (Reading r) Faulted at few = absurd at
-window_at v (Writing w) Hardening at few = absurd at
-window_at v (Writing w) Faulted at few = absurd at
-window_at v (Syncing y) Hardening at few = absurd at
-window_at v (Syncing y) Faulted at few = absurd at
-window_at v (Ending reply) step at few = absurd at
-window_at v (Unread b) step at few = absurd at
-window_at v (Answering bytes reply) step at few = absurd at
-window_at v Changing step at few = absurd at
-window_at v (Moving x) step at few = absurd at
-window_at v Over step at few = absurd at
+window_at v plan step at few =
+    at_block v (λ plan step. length v.window ≤ 48)
+    (λ r p trying. let failed : p.failed ≤ 24 = failed_few p trying.next (subst (λ (n : ℕ). n ≤ 20) (sym trying.retry) few) in
+    omega (arith, trying.tried))
+    (λ w p empty. omega (arith, ap length empty.0)) (λ y p empty. omega (arith, ap length empty.0)) plan step at
 
 window_under_way : (v : View) (m : Member) (a : Accepted) (o : Option Course) → IsUnderWay v m a o → length v.window ≤ 48
 window_under_way v m a None waiting = omega (arith, ap length waiting.window)

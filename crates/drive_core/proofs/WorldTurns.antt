@@ -1,20 +1,19 @@
 -- Turns in which damage comes, and in which minutes pass.
-use Rattle.std.proofs.Common.{◌≡◌, ℕ, ◌+◌, ◌≤◌, ◌<◌, Bool, true, false, cond, List, [], ◌∷◌, ◌++◌, Option, Some, None, refl, sym, ap, ◌∙◌, subst, arith, append-nil}
+use Rattle.std.proofs.Common.{◌≡◌, ℕ, ◌+◌, ◌<◌, Bool, false, cond, List, [], ◌∷◌, ◌++◌, None, refl, sym, ap, ◌∙◌, subst, arith}
 use Rattle.std.specs.Prelude.{◌^◌, min}
 use Rattle.std.proofs.lemmas.List.Elements.{All-nil}
 use Rattle.std.proofs.lemmas.List.Sums.{fold-append}
 use Rattle.std.proofs.lemmas.List.Elements.{All-from_recursion}
-use Rattle.disk_base.specs.declared.address.Lba.{Lba}
 use Rattle.platter_model.specs.declared.damage.Damage.{Damage}
 use Rattle.platter_model.specs.declared.op.Op.{Op}
 use Rattle.platter_model.specs.declared.op.Op.TheVariants.{Damaged}
 use Rattle.platter_model.specs.declared.world.World.TheVariants as world
-use Rattle.platter_model.specs.State.{State as Platter, with_op}
-use Rattle.platter_model.specs.Sector.{is_faulty, faulty_after}
-use Rattle.platter_model.specs.TrueLog.{supply_after, powered, is_unpowered, is_off, strays}
+use Rattle.platter_model.specs.State.{with_op}
+use Rattle.platter_model.specs.Sector.{faulty_after}
+use Rattle.platter_model.specs.TrueLog.{supply_after, powered, is_unpowered, is_off}
 use Rattle.geometry_map.specs.Size.{total_of}
 use Rattle.geometry_map.specs.DefectMap.{DefectMap}
-use Rattle.sector_store.specs.Stored.{stored, KeepsBlocks}
+use Rattle.sector_store.specs.Stored.{KeepsBlocks}
 use Rattle.sector_store.specs.Maps.{MayBeRecovered}
 use Rattle.sector_store.specs.State.{Contained, IsStore}
 use Rattle.sector_store.specs.Happening.{after_world, MayHappen}
@@ -25,17 +24,19 @@ use Rattle.block_machine.specs.Scan.{Scan, minutes_at_most, scan_after}
 use Rattle.history_replay.specs.declared.known.Known.{Known}
 use Rattle.drive_core.specs.declared.accepted.Accepted.{Accepted}
 use Rattle.drive_core.specs.declared.server.Server.{Server}
-use Rattle.drive_core.specs.Scene.{Scene, capacity, scene_after}
+use Rattle.drive_core.specs.Scene.{Scene, scene_after}
 use Rattle.drive_core.specs.Accepting.{accepted_of}
 use Rattle.drive_core.specs.Evidence.{lba}
-use Rattle.drive_core.specs.GoodTurn.{GoodTurn, IsStood, IsAllowed, WritesBlockData}
-use Rattle.drive_core.specs.Fits.{Fits, IsPresentMap, IsCached, KnowsHistory}
+use Rattle.drive_core.specs.GoodTurn.{IsStood, IsAllowed, WritesBlockData}
+use Rattle.drive_core.specs.Fits.{Fits, HasOps, IsPresentMap, IsCached, KnowsHistory}
 use Rattle.drive_core.specs.Moves.{Moves, beat}
 use Rattle.drive_core.specs.Served.{IsServedWorld}
 use Rattle.drive_core.proofs.Tries.{no_strays-before}
-use Rattle.drive_core.proofs.Elsewhere.{IsAlike, staged-alike}
+use Rattle.drive_core.proofs.Elsewhere.{staged-alike}
 use Rattle.drive_core.proofs.Parts.{IsGotOnly, cached_got, quiet_got}
+use Rattle.drive_core.proofs.Fitting.{known-quiet}
 use Rattle.drive_core.proofs.Closing.{has_ops, present_after}
+use Rattle.drive_core.proofs.Unmoved.{still_stands, has_same, none_added}
 
 -- a damage of what is served may happen to the store
 pub may_happen : (s : Scene) (d : Server) (x : Damage) → Fits s d → d.store.platter.sectors ≡ total_of d.store.map.size → IsServedWorld s.map.size (world.Damage x)
@@ -43,6 +44,28 @@ pub may_happen : (s : Scene) (d : Server) (x : Damage) → Fits s d → d.store.
 may_happen s d x fits sectors served =
     let size : d.store.platter.sectors ≡ total_of s.map.size = sectors ∙ ap (λ (n : DefectMap). total_of n.size) fits.store.map in
     (omega (arith, served.0), served.1)
+
+-- the scene after a turn of the world: there are more operations and entries, and the scan went on
+abbrev with_world : Scene → List Op → List Entry → Scan → Scene
+with_world s ops entries scan =
+    record s { ops = s.ops ++ ops; hist = record s.hist { scan = scan }; since = s.since ++ ops; entries = s.entries ++ entries }
+
+-- no command is touched, so the parts beside the store fit as before
+untouched : (s : Scene) (d e : Server) (ops : List Op) (entries : List Entry) (scan : Scan) → Fits s d → e.set ≡ d.set → e.commands.items ≡ d.commands.items → e.arrived ≡ d.arrived
+    → HasOps (with_world s ops entries scan) e.store → IsCached (with_world s ops entries scan) e.store.cache → KnowsHistory (with_world s ops entries scan) e.known
+    → IsStood s.map (s.ops ++ ops) s.hist.blocks → Fits (with_world s ops entries scan) e
+untouched s d e ops entries scan fits set_is commands_is arrived_is store cached known stands = record {
+  store = store;
+  cached = cached;
+  known = known;
+  tasks = record { set = set_is ∙ fits.tasks.set; arrived = arrived_is ∙ fits.tasks.arrived; came = fits.tasks.came };
+  staged = λ q. staged-alike s (with_world s ops entries scan) q (accepted_of d.commands.items q) (accepted_of e.commands.items q)
+      (record { map = refl; member = refl; duty = refl; window = refl; settings = refl; recovered = refl; dirty = λ n holds. refl })
+      (ap (λ (xs : List Accepted). accepted_of xs q) commands_is) (fits.staged q);
+  apart = fits.apart;
+  windows = fits.windows;
+  stands = stands;
+}
 
 damages : (s : Scene) (d e : Server) (x : Damage) → Fits s d → e.store ≡ record d.store { platter = with_op d.store.platter (Damaged x) }
     → e.set ≡ d.set → e.commands.items ≡ d.commands.items → e.arrived ≡ d.arrived → e.known ≡ d.known
@@ -90,28 +113,11 @@ damages s d e x fits store_is set_is commands_is arrived_is known_is keeps prese
         held = λ q below about. tt;
         stands = stands;
       };
-      fits = record {
-        store = has_ops s t d.store e.store (Damaged x ∷ []) fits.store refl refl map_is added (ap (λ (y : Contained). y.platter.armed) store_is) off
-            (λ q. fold-append (faulty_after q) false s.ops (Damaged x ∷ [])) present;
-        cached = subst (λ (y : Contained). IsCached t y.cache) (sym store_is) (cached_got s t d.store.cache got fits.cached);
-        known = subst (λ k. KnowsHistory t k) (sym known_is) (record {
-          capacity = fits.known.capacity;
-          settings = fits.known.settings;
-          retry = fits.known.retry;
-          waiting = fits.known.waiting;
-          warned = fits.known.warned;
-          corrupt = fits.known.corrupt;
-          readable = fits.known.readable;
-          scan = fits.known.scan;
-        });
-        tasks = record { set = set_is ∙ fits.tasks.set; arrived = arrived_is ∙ fits.tasks.arrived; came = fits.tasks.came };
-        staged = λ q. staged-alike s t q (accepted_of d.commands.items q) (accepted_of e.commands.items q)
-            (record { map = refl; member = refl; duty = refl; window = refl; settings = refl; recovered = refl; dirty = λ n holds. refl })
-            (ap (λ (xs : List Accepted). accepted_of xs q) commands_is) (fits.staged q);
-        apart = fits.apart;
-        windows = fits.windows;
-        stands = stands;
-      };
+      fits = untouched s d e (Damaged x ∷ []) [] s.hist.scan fits set_is commands_is arrived_is
+          (has_ops s t d.store e.store (Damaged x ∷ []) fits.store refl refl map_is added (ap (λ (y : Contained). y.platter.armed) store_is) off
+          (λ q. fold-append (faulty_after q) false s.ops (Damaged x ∷ [])) present)
+          (subst (λ (y : Contained). IsCached t y.cache) (sym store_is) (cached_got s t d.store.cache got fits.cached))
+          (subst (λ k. KnowsHistory t k) (sym known_is) (known-quiet s t d.known refl refl refl refl refl fits.known)) stands;
       counted = omega (arith, arrived_is);
       ended = refl;
     }
@@ -136,18 +142,10 @@ pub minutes_pass : (s : Scene) (d e : Server) (n : ℕ) (entries : List Entry) �
     → Moves (label.World (world.Minutes n)) s d e entries None
 minutes_pass s d e n entries fits store_is set_is commands_is arrived_is known_is entries_are =
     let t : Scene = scene_after s (beat (label.World (world.Minutes n)) (Tick n ∷ []) []) in
-    let none_more : s.ops ++ [] ≡ s.ops = append-nil s.ops in
-    let ops_are : e.store.platter.ops ≡ d.store.platter.ops = ap (λ (y : Contained). y.platter.ops) store_is in
-    let map_is : e.store.map ≡ d.store.map = ap (λ (y : Contained). y.map) store_is in
-    let present : IsPresentMap e.store.map e.store.platter.ops =
-    subst (λ (y : Contained). IsPresentMap y.map y.platter.ops) (sym store_is)
-    (subst (λ (m : DefectMap). IsPresentMap m d.store.platter.ops) (sym fits.store.map)
-    (subst (λ (xs : List Op). IsPresentMap s.map xs) (sym fits.store.ops) fits.store.present)) in
-    let stands : IsStood s.map (s.ops ++ []) s.hist.blocks = subst (λ (xs : List Op). IsStood s.map xs s.hist.blocks) (sym none_more) fits.stands in
     let M : List Entry → Type 0 = λ es. Moves (label.World (world.Minutes n)) s d e es None in
     let moves : M (Tick n ∷ []) = record {
       ops = [];
-      added = ops_are ∙ sym (append-nil d.store.platter.ops);
+      added = none_added s d e fits store_is;
       good = record {
         tasks = refl;
         blocks = λ none. refl;
@@ -158,31 +156,21 @@ minutes_pass s d e n entries fits store_is set_is commands_is arrived_is known_i
         own = tt;
         window = fits.windows;
         held = λ q below about. tt;
-        stands = stands;
+        stands = still_stands s d e fits store_is;
       };
-      fits = record {
-        store = has_ops s t d.store e.store [] fits.store refl refl map_is (ops_are ∙ sym (append-nil d.store.platter.ops))
-            (ap (λ (y : Contained). y.platter.armed) store_is) (ap is_off none_more) (λ p. ap (is_faulty p) none_more) present;
-        cached = subst (λ (y : Contained). IsCached t y.cache) (sym store_is)
-            (cached_got s t d.store.cache (quiet_got s t (Tick n ∷ []) refl refl refl refl refl refl) fits.cached);
-        known = subst (λ (k : Known). KnowsHistory t k) (sym known_is) (record {
-          capacity = fits.known.capacity;
-          settings = fits.known.settings;
-          retry = fits.known.retry;
-          waiting = fits.known.waiting;
-          warned = fits.known.warned;
-          corrupt = fits.known.corrupt;
-          readable = fits.known.readable;
-          scan = ap (λ (x : Scan). scan_after x (Tick n)) fits.known.scan;
-        });
-        tasks = record { set = set_is ∙ fits.tasks.set; arrived = arrived_is ∙ fits.tasks.arrived; came = fits.tasks.came };
-        staged = λ q. staged-alike s t q (accepted_of d.commands.items q) (accepted_of e.commands.items q)
-            (record { map = refl; member = refl; duty = refl; window = refl; settings = refl; recovered = refl; dirty = λ m holds. refl })
-            (ap (λ (xs : List Accepted). accepted_of xs q) commands_is) (fits.staged q);
-        apart = fits.apart;
-        windows = fits.windows;
-        stands = stands;
-      };
+      fits = untouched s d e [] (Tick n ∷ []) (scan_after s.hist.scan (Tick n)) fits set_is commands_is arrived_is (has_same s d e fits store_is t refl refl)
+          (subst (λ (y : Contained). IsCached t y.cache) (sym store_is)
+          (cached_got s t d.store.cache (quiet_got s t (Tick n ∷ []) refl refl refl refl refl refl) fits.cached))
+          (subst (λ (k : Known). KnowsHistory t k) (sym known_is) (record {
+            capacity = fits.known.capacity;
+            settings = fits.known.settings;
+            retry = fits.known.retry;
+            waiting = fits.known.waiting;
+            warned = fits.known.warned;
+            corrupt = fits.known.corrupt;
+            readable = fits.known.readable;
+            scan = ap (λ (x : Scan). scan_after x (Tick n)) fits.known.scan;
+          })) (still_stands s d e fits store_is);
       counted = omega (arith, arrived_is);
       ended = refl;
     } in

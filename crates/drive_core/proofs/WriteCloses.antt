@@ -1,8 +1,8 @@
 -- A turn of a write, from what is required of its function to the parts of the drive after it.
-use Rattle.std.proofs.Common.{◌≡◌, ◌≢◌, ◌⊎◌, ℕ, ◌+◌, ◌-◌, ◌^◌, ◌<◌, ◌≤◌, Bool, true, false, not, cond, eqb, ltb, List, [], ◌∷◌, ◌++◌, length, Option, Some, None, IsSome, refl, sym, ap, ◌∙◌, subst, arith, ⊎_elim, inl, inr}
+use Rattle.std.proofs.Common.{◌≡◌, ℕ, ◌^◌, ◌<◌, ◌≤◌, Bool, true, false, cond, List, [], ◌∷◌, ◌++◌, Option, Some, None, IsSome, refl, sym, ap, ◌∙◌, subst, arith, ⊎_elim}
 use Rattle.std.specs.Prelude.{IsTrue, IsSomeAnd, ◌||◌}
-use Rattle.std.specs.Option.{option_and_then, option_map, option_map_or}
-use Rattle.std.proofs.lemmas.Bool.{lt-ltb, or_left, or_right}
+use Rattle.std.specs.Option.{option_and_then}
+use Rattle.std.proofs.lemmas.Bool.{lt-ltb}
 use Rattle.disk_base.specs.declared.address.Lba.{Lba}
 use Rattle.disk_base.specs.declared.block.Value.TheVariants.{Data}
 use Rattle.platter_model.specs.Sector.{is_faulty}
@@ -19,18 +19,15 @@ use Rattle.platter_model.specs.declared.op.Op.TheVariants.{Wrote}
 use Rattle.task_set.specs.declared.member.Member.{Member}
 use Rattle.task_set.specs.Members.{member_of, without, IsIn}
 use Rattle.read_recovery.specs.Stages.{Progress}
-use Rattle.write_cache.specs.Contents.{Contents, IsCache, IsFullFor}
+use Rattle.write_cache.specs.Contents.{IsCache, IsFullFor}
 use Rattle.write_cache.specs.Laws.{SettlesOne}
 use Rattle.cdb_reader.specs.declared.plan.Writing as writing
-use Rattle.cdb_reader.specs.declared.plan.Plan.{Plan}
 use Rattle.cdb_reader.specs.declared.plan.Plan.TheVariants.{Reading, Writing}
-use Rattle.cdb_reader.specs.Plan.{block_of}
 use Rattle.command_engine.specs.declared.answer.Answer.{Answer}
 use Rattle.command_engine.specs.declared.answer.Answer.TheVariants as answer
 use Rattle.command_engine.specs.declared.need.Need.{Need}
 use Rattle.command_engine.specs.declared.need.Need.TheVariants as need
 use Rattle.command_engine.specs.declared.step.Recovery.{Recovery}
-use Rattle.command_engine.specs.declared.step.Step.{Step}
 use Rattle.command_engine.specs.declared.step.Step.TheVariants.{Trying}
 use Rattle.command_engine.specs.Course.{Course, next_block}
 use Rattle.command_engine.specs.Need.{need_of}
@@ -49,16 +46,15 @@ use Rattle.drive_core.specs.Holds.{needed_by_plan, needed_block}
 use Rattle.drive_core.specs.Served.{is_served_plan}
 use Rattle.drive_core.specs.Evidence.{lba}
 use Rattle.drive_core.specs.Ending.{ended_of_member}
-use Rattle.drive_core.specs.Accepting.{accepted_of, under_way, Replaces, Drops}
+use Rattle.drive_core.specs.Accepting.{accepted_of, under_way, Replaces}
 use Rattle.drive_core.specs.Commands.{view, IsWorking}
 use Rattle.block_machine.specs.Deeds.{is_crowded}
 use Rattle.block_machine.specs.Steps.{begun}
-use Rattle.drive_core.specs.Fits.{IsPresentMap, Fits}
+use Rattle.drive_core.specs.Fits.{IsPresentMap}
 use Rattle.drive_core.specs.Moves.{Moves, MayWork, Leaves}
 use Rattle.drive_core.specs.Putting.{IsInCache, IsAtPlace, NeedsPut, GoesThrough}
 use Rattle.drive_core.proofs.Closing.{Goes, Stops}
-use Rattle.drive_core.proofs.Fitting.{IsLeft}
-use Rattle.drive_core.proofs.TakeTurns.{WorksAt, works_at, StandsAt, stands_at, free_block, owed_at}
+use Rattle.drive_core.proofs.TakeTurns.{WorksAt, works_at, StandsAt, stands_at, stands_in, free_block, owed_at}
 use Rattle.drive_core.proofs.PutTurns.{put_state, through_state}
 use Rattle.drive_core.proofs.PutParts.{crowded, uncrowded}
 use Rattle.drive_core.proofs.WriteTurns.{course, written, IsWriteNeed, put_need, write_need, wrote, verifying}
@@ -138,7 +134,7 @@ writing_of : (s : Scene) (d : Server) (c : ℕ) (b : Lba) (bytes : List ℕ) (th
 writing_of s d c b bytes through may needs =
     let work : Course = needs.work in
     let here : WorksAt (accepted_of d.commands.items c) needs.work = works_at (accepted_of d.commands.items c) needs.work needs.under_way in
-    let stands : StandsAt s c needs.work = stands_at s c (accepted_of d.commands.items c) here.a needs.work here.is here.works (may.fits.staged c) in
+    let stands : StandsAt s c needs.work = stands_in s d c needs.work may.fits needs.under_way in
     let write : IsWriteNeed needs.work.plan needs.work.step b through = write_need needs.work.plan needs.work.step through b needs.need_is in
     let w_is : needs.work ≡ course needs.work.settings needs.work.gives write.w write.p needs.work.recovered =
     λ i. record { settings = needs.work.settings; gives = needs.work.gives; plan = write.plan_is i; step = write.step_is i; recovered = needs.work.recovered } in

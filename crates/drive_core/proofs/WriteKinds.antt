@@ -1,34 +1,26 @@
 -- The turns of a write: into the cache, or to the block's place.
-use Rattle.std.proofs.Common.{◌≡◌, ◌≢◌, ◌⊎◌, ℕ, ◌+◌, ◌-◌, ◌^◌, ◌<◌, ◌≤◌, Bool, true, false, not, cond, eqb, ltb, List, [], ◌∷◌, ◌++◌, length, Option, Some, None, refl, sym, ap, ◌∙◌, subst, arith, ⊎_elim, inl, inr}
-use Rattle.std.specs.Prelude.{◌&&◌, ◌||◌, Contains, IsTrue}
-use Rattle.std.specs.Option.{option_and_then, option_map, option_map_or}
-use Rattle.std.proofs.lemmas.Bool.{eq-eqb, lt-ltb, or_left}
+use Rattle.std.proofs.Common.{◌≡◌, ℕ, ◌-◌, ◌<◌, Bool, true, false, eqb, List, [], ◌∷◌, ◌++◌, Option, Some, None, refl, sym, ap, ◌∙◌, subst, arith}
+use Rattle.std.specs.Prelude.{◌||◌, Contains}
+use Rattle.std.specs.Option.{option_and_then}
+use Rattle.std.proofs.lemmas.Bool.{eq-eqb, or_left}
 use Rattle.std.proofs.lemmas.List.{append-nil}
 use Rattle.std.proofs.lemmas.List.Elements.{Contains-append_right}
-use Rattle.disk_base.specs.declared.address.Lba.{Lba}
-use Rattle.disk_base.specs.declared.address.Psn.{Psn}
 use Rattle.disk_base.specs.declared.block.Value.TheVariants.{Data}
 use Rattle.disk_base.specs.declared.payload.Payload.{Payload}
 use Rattle.platter_model.specs.declared.op.Op.{Op}
 use Rattle.platter_model.specs.declared.op.Op.TheVariants.{Wrote}
 use Rattle.platter_model.specs.Sector.{is_faulty}
-use Rattle.platter_model.specs.State.{State as Platter, with_op}
+use Rattle.platter_model.specs.State.{State as Platter}
 use Rattle.platter_model.specs.TrueLog.{is_off, strays}
 use Rattle.mode_pages.specs.declared.settings.Settings.{Settings}
-use Rattle.sense_data.specs.declared.reply.Reply.{Reply}
-use Rattle.geometry_map.specs.Size.{capacity_of}
-use Rattle.geometry_map.specs.DefectMap.{DefectMap, place_of}
+use Rattle.geometry_map.specs.DefectMap.{DefectMap}
 use Rattle.geometry_map.specs.Laws.{BlocksHaveOwnSectors}
-use Rattle.sector_store.specs.Maps.{MayBeRecovered}
 use Rattle.sector_store.specs.Stored.{stored as stored_at, StoresAt, KeepsOthers}
-use Rattle.sector_store.specs.State.{Contained, placed}
+use Rattle.sector_store.specs.State.{placed}
 use Rattle.task_set.specs.declared.member.Member.{Member}
 use Rattle.task_set.specs.Members.{member_of}
 use Rattle.read_recovery.specs.Stages.{Progress}
-use Rattle.write_cache.specs.Contents.{Contents, IsCache, IsFullFor}
-use Rattle.write_cache.specs.Laws.{SettlesOne}
 use Rattle.cdb_reader.specs.declared.plan.Writing as writing
-use Rattle.cdb_reader.specs.declared.plan.Plan.{Plan}
 use Rattle.cdb_reader.specs.declared.plan.Plan.TheVariants.{Writing}
 use Rattle.cdb_reader.specs.Plan.{after_written, block_of}
 use Rattle.command_engine.specs.declared.step.Recovery.{Recovery}
@@ -36,16 +28,16 @@ use Rattle.block_machine.specs.declared.entry.Entry.{Entry}
 use Rattle.block_machine.specs.declared.entry.Entry.TheVariants.{Put, Harden}
 use Rattle.block_machine.specs.declared.entry.Who.TheVariants.{Command}
 use Rattle.block_machine.specs.declared.turn.Label.TheVariants.{Work}
-use Rattle.block_machine.specs.Blocks.{Blocks, after_put, with_address, without_address}
+use Rattle.block_machine.specs.Blocks.{Blocks, after_put}
 use Rattle.block_machine.specs.Deeds.{is_crowded}
-use Rattle.block_machine.specs.State.{State, owed_by}
+use Rattle.block_machine.specs.State.{owed_by}
 use Rattle.block_machine.specs.Steps.{begun}
 use Rattle.drive_core.specs.declared.server.Server.{Server}
 use Rattle.drive_core.specs.Scene.{Scene, capacity}
 use Rattle.drive_core.specs.Holds.{holder_besides}
 use Rattle.drive_core.specs.Evidence.{lba}
 use Rattle.drive_core.specs.Commands.{view, IsWorking}
-use Rattle.drive_core.specs.Fits.{IsPresentMap, HasOps, IsCached, Fits}
+use Rattle.drive_core.specs.Fits.{IsPresentMap, Fits}
 use Rattle.drive_core.specs.Putting.{IsInCache, IsAtPlace}
 use Rattle.drive_core.proofs.Tables.{put_at-own, put_at-other}
 use Rattle.drive_core.proofs.Closing.{has_ops}
@@ -53,7 +45,7 @@ use Rattle.drive_core.proofs.HardenTurns.{unstrayed}
 use Rattle.drive_core.proofs.HardenMoves.{off-written, faults-written}
 use Rattle.drive_core.proofs.HardenParts.{IsAfterHarden}
 use Rattle.drive_core.proofs.PutTurns.{IsPut, IsPutThrough, half_put, half_through, put_state, through_state, through-own, through-other}
-use Rattle.drive_core.proofs.PutParts.{IsAfterPut, cached_put, cached_through, without-with, crowded, uncrowded}
+use Rattle.drive_core.proofs.PutParts.{IsAfterPut, cached_put, cached_through, without-with}
 use Rattle.drive_core.proofs.WriteTurns.{course, next-kept, next-through, next-written, to_harden, IsWriteTurn}
 
 -- a write at work on a block that nobody else holds

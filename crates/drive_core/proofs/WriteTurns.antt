@@ -1,11 +1,11 @@
 -- Where a write stands after a block was put, and how its turn moves the drive.
-use Rattle.std.proofs.Common.{◌≡◌, ◌≢◌, ◌⊎◌, ℕ, ◌+◌, ◌-◌, ◌<◌, ◌≤◌, Bool, true, false, not, cond, eqb, ltb, List, [], ◌∷◌, ◌++◌, length, Option, Some, None, refl, sym, ap, ◌∙◌, subst, arith, ⊎_elim, inl, inr}
+use Rattle.std.proofs.Common.{◌≡◌, ◌≢◌, ℕ, ◌+◌, ◌-◌, ◌<◌, ◌≤◌, Bool, true, false, not, cond, eqb, ltb, List, [], ◌∷◌, ◌++◌, length, Option, Some, None, refl, sym, ap, ◌∙◌, subst, arith}
 use Rattle.std.specs.Prelude.{◌&&◌, ◌||◌, fold, IsTrue, Result}
 use Rattle.std.specs.List.{list_any}
 use Rattle.std.specs.Option.{option_and_then, option_map_or, is_some}
 use Rattle.std.specs.Str.{bytes_eq}
 use Rattle.std.proofs.lemmas.List.{append-nil}
-use Rattle.std.proofs.lemmas.Bool.{eq-eqb, ne_eqb, eqb-true, lt-ltb, le-ltb, ltb-true, cond-true, or_left}
+use Rattle.std.proofs.lemmas.Bool.{eq-eqb, eqb-true, lt-ltb, le-ltb, ltb-true, cond-true}
 use Rattle.disk_base.specs.declared.address.Lba.{Lba}
 use Rattle.platter_model.specs.declared.op.Op.{Op}
 use Rattle.mode_pages.specs.declared.settings.Settings.{Settings}
@@ -25,7 +25,7 @@ use Rattle.cdb_reader.specs.declared.plan.Syncing as syncing
 use Rattle.cdb_reader.specs.declared.plan.Plan.{Plan}
 use Rattle.cdb_reader.specs.declared.plan.Plan.TheVariants.{Ending, Unread, Answering, Changing, Reading, Writing, Syncing, Moving, Over}
 use Rattle.cdb_reader.specs.declared.plan.Deed.TheVariants as deed
-use Rattle.cdb_reader.specs.Plan.{next, after_written, block_of, reading_from}
+use Rattle.cdb_reader.specs.Plan.{next, after_written, block_of}
 use Rattle.command_engine.specs.declared.need.Need.{Need}
 use Rattle.command_engine.specs.declared.need.Need.TheVariants as need
 use Rattle.command_engine.specs.declared.step.Recovery.{Recovery}
@@ -38,7 +38,7 @@ use Rattle.block_machine.specs.declared.entry.Entry.{Entry}
 use Rattle.block_machine.specs.declared.entry.Entry.TheVariants.{Ended}
 use Rattle.block_machine.specs.declared.turn.Label.TheVariants.{Work}
 use Rattle.block_machine.specs.Blocks.{is_dirty}
-use Rattle.block_machine.specs.State.{State, Duty, owed_by}
+use Rattle.block_machine.specs.State.{State, owed_by}
 use Rattle.block_machine.specs.Deeds.{names_dirty}
 use Rattle.block_machine.specs.Entries.{ends_as_told}
 use Rattle.block_machine.specs.Turns.{owes_nothing_now}
@@ -47,8 +47,8 @@ use Rattle.drive_core.specs.declared.accepted.Accepted.{Accepted}
 use Rattle.drive_core.specs.declared.server.Server.{Server}
 use Rattle.drive_core.specs.declared.answer.Ended as told_end
 use Rattle.drive_core.specs.Scene.{Scene, capacity, last_found, window_after, opens_window, recovered_by, windows_with}
-use Rattle.drive_core.specs.Holds.{held_by_plan, held_block, holder_besides}
-use Rattle.drive_core.specs.Evidence.{lba, FailedBelow, IsEndShown}
+use Rattle.drive_core.specs.Holds.{held_by_plan, held_block}
+use Rattle.drive_core.specs.Evidence.{lba, IsEndShown}
 use Rattle.drive_core.specs.Ending.{ended_of_member, ended_in}
 use Rattle.drive_core.specs.Commands.{View, view, IsAtBlock, IsTrying, IsWorking, IsCommand, IsOwnRange, IsOwnRecovery}
 use Rattle.drive_core.specs.Served.{is_served_plan}

@@ -1,15 +1,11 @@
 -- A write to a sector without a fault, while the power is on and no cut is armed.
-use Rattle.std.proofs.Common.{◌≡◌, ℕ, Bool, false, cond, List, [], ◌∷◌, ◌++◌, Option, Some, None, refl, sym, ap, ◌∙◌, subst}
+use Rattle.std.proofs.Common.{◌≡◌, ℕ, Bool, false, cond, List, None, ap, ◌∙◌, subst}
 use Rattle.disk_base.specs.declared.address.Lba.{Lba}
 use Rattle.disk_base.specs.declared.address.Psn.{Psn}
-use Rattle.disk_base.specs.declared.payload.Payload.{Payload}
-use Rattle.platter_model.specs.declared.op.Op.TheVariants.{Wrote, WriteFailed}
-use Rattle.platter_model.specs.declared.damage.Arming.{Arming}
-use Rattle.platter_model.specs.declared.answer.WriteAnswer.{WriteAnswer}
 use Rattle.platter_model.specs.declared.answer.WriteAnswer.TheVariants.{Written, Fault, Off}
 use Rattle.platter_model.specs.Sector.{is_faulty}
 use Rattle.platter_model.specs.TrueLog.{is_off}
-use Rattle.platter_model.specs.State.{State, write_answer, good_answer, after_write, after_good_write, with_op}
+use Rattle.platter_model.specs.State.{State, write_answer, good_answer}
 use Rattle.geometry_map.specs.DefectMap.{place_of}
 use Rattle.sector_store.specs.declared.answer.StoreAnswer.{StoreAnswer}
 use Rattle.sector_store.specs.declared.answer.StoreAnswer.TheVariants as store_answer

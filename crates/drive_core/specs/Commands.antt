@@ -1,5 +1,5 @@
 -- How a command that is in stands.
-use Rattle.std.specs.Prelude.{◌≡◌, ℕ, ◌*◌, ◌<◌, ◌≤◌, Bool, true, false, IsTrue, List, [], length, slice_index, Option, Some, None, Result, Ok, Err}
+use Rattle.std.specs.Prelude.{◌≡◌, ℕ, ◌*◌, ◌<◌, ◌≤◌, Bool, true, false, IsTrue, List, [], length, slice_index, Option, Some, None, Result}
 use Rattle.std.specs.Option.{option_map_or, is_some}
 use Rattle.sense_data.specs.declared.sense.Sense.{Sense}
 use Rattle.task_set.specs.declared.member.Member.{Member}
@@ -11,7 +11,7 @@ use Rattle.geometry_map.specs.Size.{capacity_of}
 use Rattle.geometry_map.specs.DefectMap.{DefectMap, place_of}
 use Rattle.cdb_reader.specs.declared.plan.Reading as reading
 use Rattle.cdb_reader.specs.declared.plan.Plan.{Plan}
-use Rattle.cdb_reader.specs.declared.plan.Plan.TheVariants.{Ending, Unread, Reading, Writing, Syncing}
+use Rattle.cdb_reader.specs.declared.plan.Plan.TheVariants.{Reading, Writing, Syncing}
 use Rattle.cdb_reader.specs.Read.{read_of}
 use Rattle.cdb_reader.specs.Request.{Request}
 use Rattle.command_engine.specs.declared.step.Recovery.{Recovery}

@@ -1,5 +1,5 @@
 -- What the operations of a turn, and those before it, show of its entries.
-use Rattle.std.specs.Prelude.{◌≡◌, ◌⊎◌, ℕ, ◌<◌, ◌&&◌, Bool, true, false, not, List, ◌++◌, Contains, slice_get, Option, Some, None, Result, Ok}
+use Rattle.std.specs.Prelude.{◌≡◌, ◌⊎◌, ℕ, ◌<◌, ◌&&◌, Bool, true, false, not, List, Contains, slice_get, Option, Some, Result, Ok}
 use Rattle.disk_base.specs.declared.address.Lba.{Lba}
 use Rattle.disk_base.specs.declared.address.Psn.{Psn}
 use Rattle.disk_base.specs.declared.block.Value.{Value}
@@ -19,7 +19,6 @@ use Rattle.defect_lists.specs.DefectData.{defect_data}
 use Rattle.cdb_reader.specs.Request.{Request, ReadDefectData}
 use Rattle.cdb_reader.specs.declared.plan.Plan.{Plan}
 use Rattle.cdb_reader.specs.declared.plan.Plan.TheVariants.{Reading, Writing, Syncing}
-use Rattle.command_engine.specs.declared.step.Recovery.{Recovery}
 use Rattle.command_engine.specs.Ending.{report_of}
 use Rattle.block_machine.specs.declared.entry.Entry.{Entry}
 use Rattle.block_machine.specs.declared.entry.Entry.TheVariants.{Get, Put, Harden, Page, Ended, Scanned}

@@ -27,7 +27,7 @@ use Rattle.block_machine.specs.Blocks.{Blocks, allowed, same_value}
 use Rattle.block_machine.specs.Steps.{begun, entry_after}
 use Rattle.block_machine.specs.Turns.{entries_lawful, blocks_lawful}
 use Rattle.drive_core.specs.Scene.{Scene, Beat, capacity, scene_after}
-use Rattle.drive_core.specs.Evidence.{Shows, lba}
+use Rattle.drive_core.specs.Evidence.{Shows}
 use Rattle.drive_core.specs.Holds.{holder_besides}
 
 -- while no operation is a stray, each map that recovery may take has for each block a value that the history allows it

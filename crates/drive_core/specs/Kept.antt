@@ -1,7 +1,6 @@
 -- What the type of a drive keeps.
 use Rattle.std.specs.Prelude.{◌≤◌, length, map}
 use Rattle.disk_base.specs.Along.{Along}
-use Rattle.block_machine.specs.declared.turn.Turn.{Turn}
 use Rattle.drive_core.specs.declared.server.Server.{Server}
 use Rattle.drive_core.specs.Scene.{scene_at_start, scene_after, factory_ops}
 use Rattle.drive_core.specs.GoodTurn.{GoodTurn}

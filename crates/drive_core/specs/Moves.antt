@@ -1,5 +1,5 @@
 -- What a turn does to the parts of a drive.
-use Rattle.std.specs.Prelude.{◌≡◌, ◌≢◌, ℕ, ◌+◌, ◌≤◌, List, ◌++◌, Option, None}
+use Rattle.std.specs.Prelude.{◌≡◌, ℕ, ◌+◌, ◌≤◌, List, ◌++◌, Option, None}
 use Rattle.platter_model.specs.declared.op.Op.{Op}
 use Rattle.task_set.specs.Members.{without}
 use Rattle.sector_store.specs.State.{Contained}

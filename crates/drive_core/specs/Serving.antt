@@ -1,13 +1,16 @@
 -- Which events are served where, and what their turns come to.
-use Rattle.std.specs.Prelude.{◌≡◌, ℕ, ◌+◌, ◌^◌, ◌<◌, List, Some, None}
+use Rattle.std.specs.Prelude.{◌≡◌, ℕ, ◌+◌, ◌^◌, ◌<◌, Bool, true, false, List, Some, None}
+use Rattle.std.specs.Option.{is_none}
 use Rattle.block_machine.specs.declared.entry.Entry.{Entry}
-use Rattle.drive_core.specs.declared.event.Arrival.TheVariants.{Function}
+use Rattle.drive_core.specs.declared.accepted.Accepted.{Accepted}
+use Rattle.drive_core.specs.declared.event.Arrival.TheVariants.{Command, Function}
 use Rattle.drive_core.specs.declared.event.Event.{Event}
 use Rattle.drive_core.specs.declared.event.Event.TheVariants as event
 use Rattle.drive_core.specs.declared.server.Server.{Server}
 use Rattle.drive_core.specs.declared.turning.Served.{Served}
 use Rattle.drive_core.specs.Scene.{Scene}
 use Rattle.drive_core.specs.Fits.{Fits}
+use Rattle.drive_core.specs.Accepting.{under_way}
 use Rattle.drive_core.specs.Able.{refusal_on}
 use Rattle.drive_core.specs.Moves.{Moves}
 use Rattle.drive_core.specs.Served.{IsServed}
@@ -17,6 +20,13 @@ use Rattle.drive_core.specs.Turning.{label_of, arrives_as, BeginsWith}
 abbrev pub entries_at_most : Event → ℕ
 entries_at_most (event.Arrive (Function i what)) = 65
 entries_at_most other = 4
+
+-- the turn of an event may ask for more memory than was reserved: only that of a command that comes or starts does
+abbrev pub may_want_memory : List Accepted → Event → Bool
+may_want_memory commands (event.Arrive (Command i tag attribute cdb sent)) = true
+may_want_memory commands (event.Work c) = is_none (under_way commands c)
+may_want_memory commands (event.Any x) = true
+may_want_memory commands other = false
 
 -- the parts of a drive fit a scene in which an event is served and not refused; one more command has a number
 pub record MayServe (s : Scene) (d : Server) (e : Event) : Type 0 where

@@ -4,13 +4,14 @@ use Rattle.disk_base.specs.declared.address.Lba.{Lba}
 use Rattle.disk_base.specs.declared.block.Value.{Value}
 use Rattle.disk_base.specs.declared.block.Value.TheVariants.{Data, Lost}
 use Rattle.disk_base.specs.declared.payload.Payload.{Payload}
+use Rattle.platter_model.specs.State.{tried}
 use Rattle.platter_model.specs.TrueLog.{strays}
 use Rattle.geometry_map.specs.DefectMap.{place_of}
 use Rattle.write_cache.specs.Contents.{newest, clean_data, after_look, with_clean}
 use Rattle.sector_store.specs.declared.answer.TryAnswer.{TryAnswer}
 use Rattle.sector_store.specs.declared.answer.TryAnswer.TheVariants.{Found, Nothing, Off}
 use Rattle.sector_store.specs.Stored.{stored, KeepsBlocks}
-use Rattle.sector_store.specs.State.{Contained, tried, try_answer}
+use Rattle.sector_store.specs.State.{Contained, try_answer}
 use Rattle.command_engine.specs.declared.answer.Answer.{Answer}
 use Rattle.command_engine.specs.declared.answer.Answer.TheVariants.{Got, Missed}
 use Rattle.command_engine.specs.declared.need.Need.TheVariants.{Take}

@@ -1,5 +1,5 @@
 //! Commands and task management functions arrive.
-ghost use Rattle.std.specs.Prelude.{◌≡◌, ◌+◌, ◌≤◌, ◌<◌, ◌^◌, [], Some, IfOk, OnOk, OnErr, IsTrue, vec_len, vec_capacity};
+ghost use Rattle.std.specs.Prelude.{◌≡◌, ◌+◌, ◌≤◌, ◌<◌, ◌^◌, [], false, Some, IsOk, IfOk, OnOk, OnErr, IsTrue, vec_len, vec_capacity};
 ghost use Rattle.block_machine.specs.declared.turn.Label.TheVariants.{Arrive as ArriveOf};
 ghost use Rattle.drive_core.specs.Scene.{Scene};
 ghost use Rattle.drive_core.specs.Moves.{Moves};
@@ -7,7 +7,7 @@ ghost use Rattle.drive_core.specs.Fits.{Fits};
 ghost use Rattle.drive_core.specs.Served.{is_served_cdb};
 ghost use Rattle.drive_core.specs.Turning.{BeginsWith};
 ghost use Rattle.drive_core.specs.Arriving.{entry_of};
-ghost use Rattle.drive_core.specs.Serving.{MayServe, IsServedTurn, entries_at_most};
+ghost use Rattle.drive_core.specs.Serving.{MayServe, IsServedTurn, entries_at_most, may_want_memory};
 ghost use Rattle.drive_core.specs.declared.event.Event.TheVariants as event;
 
 use crate::accepted::Accepted;
@@ -61,6 +61,7 @@ pub fn arrive(
     requires command_room { vec_len server.old.commands + 1 ≤ vec_capacity server.old.commands }
     ensures moves { (s : Scene) → MayServe s server.old (event.Arrive arrival)
         → IfOk result (IsServedTurn s (event.Arrive arrival) server.old server.new entries.new.items) }
+    ensures certain { may_want_memory server.old.commands.items (event.Arrive arrival) ≡ false → IsOk result }
     ensures err { OnErr result (server.new ≡ server.old) }
 {
     match arrival {

@@ -1,6 +1,6 @@
 //! Task management functions.
 ghost use Rattle.std.specs.Prelude.{◌≡◌, ◌+◌, ◌≤◌, [], ◌++◌, map, filter, not, length, Some, None, vec_len, vec_capacity};
-ghost use Rattle.task_set.specs.Members.{IsByAge, is_named, numbers};
+ghost use Rattle.task_set.specs.Members.{is_named, numbers};
 ghost use Rattle.block_machine.specs.declared.entry.Entry.TheVariants.{Asked as AskedFor, Aborted as AbortedOne};
 ghost use Rattle.block_machine.specs.declared.turn.Label.TheVariants.{Arrive as ArriveOf};
 ghost use Rattle.block_machine.specs.Turns.{named_by};
@@ -11,6 +11,7 @@ ghost use Rattle.drive_core.specs.Turning.{BeginsWith};
 
 use crate::accepted::leave_with_set;
 use crate::server::Server;
+use crate::standing::stands_by_age;
 use block_machine::{Entry, Label};
 use disk_base::{Function, Initiator};
 use history_replay::{settings_after, settle_attentions};
@@ -40,6 +41,7 @@ pub fn ask(server: &mut Server, initiator: Initiator, what: Function, entries: &
     );
     server.known.settings = settings_after(&server.known.settings, &asked);
     entries.push_reserved(asked);
+    stands_by_age(&server.set);
     let gone = take_out(&mut server.set, initiator, &what);
     leave_with_set(&mut server.commands, &server.set);
     tell_aborted(gone.as_slice(), entries);
@@ -47,11 +49,9 @@ pub fn ask(server: &mut Server, initiator: Initiator, what: Function, entries: &
 
 // Takes the commands out of the set that a function of an initiator names, and gives their numbers, by age.
 fn take_out(set: &mut TaskSet, initiator: Initiator, what: &Function) -> Gone
-    ensures by_age { IsByAge set.old }
     ensures gone { result.items ≡ numbers (filter (is_named (named_by initiator what.now)) set.old) }
     ensures left { set.new ≡ filter (λ m. not (is_named (named_by initiator what.now) m)) set.old }
 {
-    let _by_age = set.members();
     match what {
         Function::Abort(tag) => set.abort(initiator, *tag),
         Function::AbortSet => set.abort_set(initiator),

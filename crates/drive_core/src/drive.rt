@@ -10,10 +10,10 @@ ghost use Rattle.drive_core.specs.Served.{IsServed};
 ghost use Rattle.drive_core.specs.Starting.{KnowsStart};
 
 use crate::server::{Server, reserve};
-use crate::standing::stands;
+use crate::standing::{stands, stands_by_age};
 use crate::turning::{entries_at_most, serve};
 use crate::{Event, Pick, TurnAnswer, Waiting, able};
-use block_machine::{Entries, Turn, Turns};
+use block_machine::{Entries, Entry, Turn, Turns};
 use disk_base::{NoMemory, Psn};
 use geometry_map::{Size, two_blocks_are_never_at_one_sector};
 use history_replay::{Known, Scanning};
@@ -105,7 +105,7 @@ impl Drive {
             label: served.label,
             ops_from: from,
             ops_to: self.server.store.platter().ops().len() as u64,
-            entries: Entries::from_vec(entries),
+            entries: sealed(entries),
         });
         Ok(TurnAnswer::Done {
             number: self.turns.len() as u64,
@@ -151,7 +151,7 @@ impl Drive {
         ensures { SomebodyIsAble (scene_of self.now) }
     {
         some_command_may_run();
-        let _ = self.server.set.members();
+        stands_by_age(&self.server.set);
     }
 
     /// So many arrivals are still to come.
@@ -207,6 +207,14 @@ fn known_at_start(alloc: Global, capacity: u64) -> Result<Known, NoMemory>
             log: ScanLog::new(alloc)?,
         },
     })
+}
+
+// The entries of a turn that is over. They stay for the whole run, without room for more.
+fn sealed(mut entries: Vec<Entry>) -> Entries
+    ensures { result ≡ entries.items }
+{
+    entries.shrink_to_fit();
+    Entries::from_vec(entries)
 }
 
 // Only what happens from outside comes while the power is off.

@@ -1,11 +1,13 @@
-//! What holds of every store.
+//! What holds of every store and of every task set.
 ghost use Rattle.std.specs.Prelude.{◌^◌, ◌<◌};
 ghost use Rattle.sector_store.specs.Maps.{MayBeRecovered};
 ghost use Rattle.sector_store.specs.State.{IsStore};
 ghost use Rattle.sector_store.specs.Stored.{KeepsBlocks};
+ghost use Rattle.task_set.specs.Members.{IsByAge};
 
 use map_generations::present_maps_may_be_taken;
 use sector_store::{Store, recovery_finds_what_is_stored};
+use task_set::TaskSet;
 
 /// Its map is there, and recovery may take it; whatever recovery takes has the values that are stored by it.
 pub fn stands(store: &Store)
@@ -16,4 +18,11 @@ pub fn stands(store: &Store)
     store.stands();
     present_maps_may_be_taken();
     recovery_finds_what_is_stored();
+}
+
+/// Its commands are by age, so each has a number of its own.
+pub fn stands_by_age(set: &TaskSet)
+    ensures { IsByAge set.now }
+{
+    set.members();
 }

@@ -36,7 +36,12 @@ pub fn sync(
             pass(c, from, b, entries);
             harden(server, c, b, entries)
         }
-        None => pass_all(server, c, from, to, entries),
+        None => {
+            // No block of the rest of the range is dirty: the sync ends.
+            entries.push_reserved(Entry::Passed { c, from, to });
+            let reply = answer(&mut server.commands, c, Answer::NextDirty(None));
+            conclude(server, c, reply, entries)
+        }
     }
 }
 
@@ -49,24 +54,4 @@ fn pass(c: u32, from: Lba, to: Lba, entries: &mut Vec<Entry>)
     if from < to {
         entries.push_reserved(Entry::Passed { c, from, to });
     }
-}
-
-// No block of the rest of the range is dirty: the sync ends.
-fn pass_all(
-    server: &mut Server,
-    c: u32,
-    from: Lba,
-    to: Lba,
-    entries: &mut Vec<Entry>,
-) -> Option<Ended>
-    requires may { (s : Scene) × MayWork s server.old c }
-    requires needs { Needs server.old.commands.items c (Need.Pass from to) }
-    requires clean { dirty_within from to server.old.store.cache ≡ [] }
-    requires empty { entries.old.items ≡ [] }
-    requires entry_room { 4 ≤ vec_capacity entries.old }
-    ensures moves { (s : Scene) → MayWork s server.old c → Moves (WorkOn c) s server.old server.new entries.new.items result }
-{
-    entries.push_reserved(Entry::Passed { c, from, to });
-    let reply = answer(&mut server.commands, c, Answer::NextDirty(None));
-    conclude(server, c, reply, entries)
 }

@@ -1,10 +1,10 @@
 //! A turn by what it is about, and work on a command by what that needs.
-ghost use Rattle.std.specs.Prelude.{◌≡◌, ◌+◌, ◌≤◌, [], Some, None, IfOk, OnErr, vec_len, vec_capacity};
-ghost use Rattle.std.specs.Option.{option_map};
+ghost use Rattle.std.specs.Prelude.{◌≡◌, ◌+◌, ◌≤◌, [], false, Some, None, IsOk, IfOk, OnErr, vec_len, vec_capacity};
+ghost use Rattle.std.specs.Option.{option_map, is_none};
 ghost use Rattle.drive_core.specs.Accepting.{under_way, errand_of};
 ghost use Rattle.drive_core.specs.Scene.{Scene};
 ghost use Rattle.drive_core.specs.Moves.{Moves, MayWork};
-ghost use Rattle.drive_core.specs.Serving.{MayServe, IsServedTurn, entries_at_most};
+ghost use Rattle.drive_core.specs.Serving.{MayServe, IsServedTurn, entries_at_most, may_want_memory};
 ghost use Rattle.block_machine.specs.declared.turn.Label.TheVariants.{Work as WorkOn};
 
 use crate::accepted::{Errand, errand_at};
@@ -59,6 +59,8 @@ pub fn serve(
     requires ops_room { 2 ≤ server.old.store.platter.room }
     requires command_room { vec_len server.old.commands + 1 ≤ vec_capacity server.old.commands }
     ensures moves { (s : Scene) → MayServe s server.old event → IfOk result (IsServedTurn s event server.old server.new entries.new.items) }
+    // Only a command that comes or starts asks for more memory than was reserved.
+    ensures certain { may_want_memory server.old.commands.items event ≡ false → IsOk result }
     ensures err { OnErr result (server.new ≡ server.old) }
 {
     match event {
@@ -92,6 +94,7 @@ fn serve_work(
     requires ops_room { 2 ≤ server.old.store.platter.room }
     ensures label { IfOk result (λ made. made.label ≡ WorkOn c) }
     ensures moves { (s : Scene) → MayWork s server.old c → IfOk result (λ made. Moves (WorkOn c) s server.old server.new entries.new.items made.ended) }
+    ensures certain { is_none (under_way server.old.commands.items c) ≡ false → IsOk result }
     ensures err { OnErr result (server.new ≡ server.old) }
 {
     let ended = work(alloc, server, c, entries)?;
@@ -113,6 +116,7 @@ fn work(
     requires entry_room { 4 ≤ vec_capacity entries.old }
     requires ops_room { 2 ≤ server.old.store.platter.room }
     ensures moves { (s : Scene) → MayWork s server.old c → IfOk result (Moves (WorkOn c) s server.old server.new entries.new.items) }
+    ensures certain { is_none (under_way server.old.commands.items c) ≡ false → IsOk result }
     ensures err { OnErr result (server.new ≡ server.old) }
 {
     match errand_at(server.commands.as_slice(), c) {

@@ -1,4 +1,4 @@
-use Rattle.std.proofs.Common.{◌≡◌, ◌≢◌, ◌∙◌, ◌<◌, ℕ, List, Some, ap, sym, arith, eqb, false, get_or, length}
+use Rattle.std.proofs.Common.{◌≢◌, ◌∙◌, ◌<◌, ℕ, List, Some, ap, sym, arith, get_or, length}
 use Rattle.std.specs.Prelude.{◌%◌}
 use Rattle.std.proofs.lemmas.Bool.{eqb-false}
 use Rattle.drive_core.specs.declared.answer.Pick.TheVariants.{Work}

@@ -1,4 +1,4 @@
-use Rattle.std.proofs.Common.{◌≡◌, ◌∙◌, ap, false, List, Option}
+use Rattle.std.proofs.Common.{◌∙◌, ap, false, List}
 use Rattle.std.specs.Option.{option_map_or}
 use Rattle.command_engine.specs.Answers.{is_hardened}
 use Rattle.command_engine.specs.Course.{Course}

@@ -1,4 +1,4 @@
-use Rattle.std.proofs.Common.{◌≡◌, ◌∙◌, sym, ap, false, Option, Some, None}
+use Rattle.std.proofs.Common.{◌∙◌, sym, ap, false, Option, Some, None}
 use Rattle.std.specs.Option.{option_map_or}
 use Rattle.command_engine.specs.Course.{Course}
 use Rattle.command_engine.specs.Answers.{is_hardened}

@@ -1,4 +1,4 @@
-use Rattle.std.proofs.Common.{◌≡◌, arith}
+use Rattle.std.proofs.Common.{arith}
 use Rattle.drive_core.proofs.Walking.{arrival-picked, work-picked}
 use Rattle.drive_core.proofs.able.picked.Goals as goal
 

@@ -4,7 +4,7 @@ use Rattle.drive_core.specs.declared.accepted.Accepted.{Accepted}
 use Rattle.command_engine.specs.Course.{Course}
 use Rattle.command_engine.specs.Ending.{ending_of}
 use Rattle.command_engine.specs.Answers.{after}
-use Rattle.drive_core.proofs.Placing.{placed, goes_on, absent, same_there, under_way-there, under_way-nowhere, fits-there, fits-nowhere}
+use Rattle.drive_core.proofs.Placing.{placed, goes_on, same_there, under_way-there, under_way-nowhere, fits-there, fits-nowhere}
 use Rattle.drive_core.proofs.accepted.answer.Goals as goal
 
 pub answer-requires : goal.answer-requires

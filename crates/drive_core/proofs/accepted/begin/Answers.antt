@@ -1,4 +1,4 @@
-use Rattle.std.proofs.Common.{◌≡◌, ◌∙◌, sym, ap, Some, None}
+use Rattle.std.proofs.Common.{Some, None}
 use Rattle.drive_core.proofs.Placing.{placed, begins, absent}
 use Rattle.drive_core.proofs.accepted.begin.Goals as goal
 

@@ -1,4 +1,4 @@
-use Rattle.std.proofs.Common.{◌≡◌, ◌∙◌, sym, refl}
+use Rattle.std.proofs.Common.{◌∙◌, sym}
 use Rattle.drive_core.proofs.Placing.{errand-there, errand-waiting, errand-nowhere}
 use Rattle.drive_core.proofs.accepted.errand_at.Goals as goal
 

@@ -1,4 +1,4 @@
-use Rattle.std.proofs.Common.{rules, ◌≡◌, List, eqb, not, subst, sym, filter}
+use Rattle.std.proofs.Common.{rules, List, eqb, not, subst, sym}
 use Rattle.history_replay.proofs.Retained.{filter-from_filtered}
 use Rattle.drive_core.specs.declared.accepted.Accepted.{Accepted}
 use Rattle.drive_core.specs.Accepting.{Drops}

@@ -16,7 +16,7 @@ returns-clause-moves c s fits =
       arrived = d.arrived;
       known = record { capacity = d.known.capacity; settings = c.settings_after-server.result; waiting = c.settle_attentions.new.waiting; corrupt = d.known.corrupt; scan = d.known.scan };
     })
-    c.args.initiator c.args.what c.take_out-gone.result.items fits c.take_out-gone.ensures.by_age c.take_out-gone.ensures.gone
+    c.args.initiator c.args.what c.take_out-gone.result.items fits c.stands_by_age.ensures c.take_out-gone.ensures.gone
     (record {
       store = refl;
       arrived = refl;

@@ -1,5 +1,4 @@
-use Rattle.std.proofs.Common.{◌≡◌, ◌∙◌, ◌++◌, ◌∷◌, [], List, Some, None, refl, sym, ap}
-use Rattle.block_machine.specs.declared.entry.Entry.{Entry}
+use Rattle.std.proofs.Common.{◌∙◌, ◌++◌, ◌∷◌, [], refl, ap}
 use Rattle.block_machine.specs.declared.entry.Entry.TheVariants.{Ended}
 use Rattle.drive_core.specs.declared.server.Server.{Server}
 use Rattle.drive_core.proofs.Hardens.{turn_moves}

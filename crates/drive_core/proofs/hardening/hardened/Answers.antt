@@ -1,7 +1,6 @@
-use Rattle.std.proofs.Common.{◌≡◌, ◌∙◌, ℕ, Some, sym, ap, refl, Option}
+use Rattle.std.proofs.Common.{Some, ap, refl, Option}
 use Rattle.std.specs.Option.{option_and_then}
 use Rattle.command_engine.specs.declared.answer.Answer.TheVariants.{NextDirty, Hardened}
-use Rattle.command_engine.specs.Course.{Course}
 use Rattle.command_engine.specs.Answers.{after}
 use Rattle.drive_core.specs.declared.accepted.Accepted.{Accepted}
 use Rattle.drive_core.proofs.Hardened.{hardened_fits, fits_course, some_fits, replaces-twice, working_of}

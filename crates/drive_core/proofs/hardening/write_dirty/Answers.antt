@@ -1,15 +1,5 @@
-use Rattle.drive_core.proofs.Hardens.{hardened_moves}
-use Rattle.drive_core.proofs.SyncMoves.{next-passed}
-use Rattle.drive_core.proofs.MetMoves.{through_moves}
-use Rattle.drive_core.proofs.HardenMoves.{harden_on}
-use Rattle.drive_core.proofs.PassTurns.{half_passed}
-use Rattle.drive_core.proofs.FirstDirty.{none_passes}
-use Rattle.drive_core.proofs.HardenTurns.{dirty-newest}
-use Rattle.drive_core.proofs.HardenParts.{IsAfterHarden}
-use Rattle.std.proofs.Common.{◌≡◌, ◌⊎◌, ℕ, ◌^◌, ◌<◌, List, Some, refl, sym, ap, ◌∙◌, subst}
+use Rattle.std.proofs.Common.{◌≡◌, ◌⊎◌, ℕ, ◌^◌, ◌<◌, List, sym, ap, ◌∙◌, subst}
 use Rattle.std.specs.Option.{IfSome}
-use Rattle.disk_base.specs.declared.block.Value.TheVariants.{Data}
-use Rattle.platter_model.specs.declared.op.Op.{Op}
 use Rattle.geometry_map.specs.DefectMap.{DefectMap}
 use Rattle.drive_core.specs.Fits.{IsPresentMap}
 use Rattle.sector_store.specs.State.{Contained}

@@ -1,5 +1,4 @@
-use Rattle.std.proofs.Common.{◌≡◌, ◌∙◌, sym, refl, Some, None}
-use Rattle.drive_core.proofs.Placing.{under_way-there, under_way-nowhere}
+use Rattle.std.proofs.Common.{◌∙◌, sym}
 use Rattle.drive_core.proofs.ToPut.{next_there, next_waiting, next_nowhere, put_next}
 use Rattle.drive_core.proofs.putting.block_to_put.Goals as goal
 

@@ -1,12 +1,11 @@
-use Rattle.std.proofs.Common.{◌≡◌, List, [], ◌∷◌, ◌++◌, refl, sym, ap, ◌∙◌, subst, rules}
+use Rattle.std.proofs.Common.{◌≡◌, List, [], ◌∷◌, ◌++◌, refl, sym, ap, ◌∙◌, subst}
 use Rattle.block_machine.specs.declared.entry.Entry.{Entry}
 use Rattle.block_machine.specs.declared.entry.Entry.TheVariants as entry
 use Rattle.block_machine.specs.declared.turn.Label.TheVariants.{Work}
-use Rattle.write_cache.specs.declared.cache.Put.{Put}
 use Rattle.write_cache.specs.declared.cache.Put.TheVariants.{Kept, Full}
 use Rattle.drive_core.specs.declared.server.Server.{Server}
 use Rattle.drive_core.specs.Moves.{Moves, MayWork}
-use Rattle.drive_core.proofs.WriteCloses.{kept_moves, answer_kept, in_set, same_drive}
+use Rattle.drive_core.proofs.WriteCloses.{kept_moves, same_drive}
 use Rattle.drive_core.proofs.putting.put.Goals as goal
 
 pub returns-in-Kept : goal.returns-in-Kept

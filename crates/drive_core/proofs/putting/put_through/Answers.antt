@@ -1,8 +1,8 @@
-use Rattle.std.proofs.Common.{◌≡◌, List, [], ◌∷◌, ◌++◌, refl, sym, ap, ◌∙◌}
+use Rattle.std.proofs.Common.{List, [], ◌∷◌, ◌++◌, refl, ap, ◌∙◌}
 use Rattle.block_machine.specs.declared.entry.Entry.{Entry}
 use Rattle.block_machine.specs.declared.entry.Entry.TheVariants.{Put, Harden}
 use Rattle.block_machine.specs.declared.entry.Who.TheVariants.{Command}
-use Rattle.drive_core.proofs.WriteCloses.{through_moves_by, answer_through, in_set_through, may_store}
+use Rattle.drive_core.proofs.WriteCloses.{through_moves_by}
 use Rattle.drive_core.proofs.putting.put_through.Goals as goal
 
 pub returns : goal.returns

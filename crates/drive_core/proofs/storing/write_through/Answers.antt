@@ -1,4 +1,3 @@
-use Rattle.std.proofs.Common.{◌≡◌}
 use Rattle.drive_core.proofs.Written.{answered-done, at_place}
 use Rattle.drive_core.proofs.storing.write_through.Goals as goal
 

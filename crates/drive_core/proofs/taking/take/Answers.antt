@@ -1,4 +1,4 @@
-use Rattle.std.proofs.Common.{◌≡◌, ◌∙◌, Bool, Option, refl, ap, subst}
+use Rattle.std.proofs.Common.{◌∙◌, Bool, Option, refl, ap, subst}
 use Rattle.disk_base.specs.declared.block.Value.{Value}
 use Rattle.write_cache.specs.Contents.{IsCache}
 use Rattle.drive_core.specs.Taking.{got_entries, value_got}

@@ -1,8 +1,6 @@
-use Rattle.std.proofs.Common.{◌≡◌, refl, sym, ap, ◌∙◌, inl, List, true, false}
-use Rattle.drive_core.specs.declared.accepted.Accepted.{Accepted}
-use Rattle.drive_core.specs.Putting.{NeedsPut}
+use Rattle.std.proofs.Common.{inl}
 use Rattle.command_engine.specs.declared.need.Need.TheVariants as need
-use Rattle.drive_core.proofs.ToPut.{has_next, needs_it, put_asked}
+use Rattle.drive_core.proofs.ToPut.{put_asked}
 use Rattle.drive_core.proofs.turning.go_on.Goals as goal
 
 pub put-requires-clause-needs : goal.put-requires-clause-needs

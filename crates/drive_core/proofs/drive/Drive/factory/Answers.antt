@@ -1,4 +1,4 @@
-use Rattle.std.proofs.Common.{◌≡◌, ℕ, List, refl, sym, subst}
+use Rattle.std.proofs.Common.{ℕ, List, refl, sym, subst}
 use Rattle.geometry_map.specs.Size.{capacity_of}
 use Rattle.block_machine.specs.declared.turn.Turn.{Turn}
 use Rattle.drive_core.specs.declared.server.Server.{Server}
