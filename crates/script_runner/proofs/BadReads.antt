@@ -5,6 +5,7 @@ use Rattle.std.specs.List.{list_any}
 use Rattle.std.specs.Str.{bytes_eq}
 use Rattle.std.proofs.lemmas.Bool.{eqb-true, not-true, not-false, ltb-true}
 use Rattle.std.proofs.lemmas.List.Elements.{All-take, Contains-append_left, Contains-append_right, Contains-append_cases}
+use Rattle.std.proofs.lemmas.List.Sums.{fold-append}
 use Rattle.disk_base.specs.declared.address.Lba.{Lba}
 use Rattle.disk_base.specs.declared.address.Psn.{Psn}
 use Rattle.disk_base.specs.declared.block.Value.TheVariants.{Data, Lost}
@@ -33,7 +34,6 @@ use Rattle.drive_core.specs.GoodTurn.{GoodTurn}
 use Rattle.drive_core.proofs.GoodRuns.{map_stays}
 use Rattle.script_runner.specs.Laws.{BadReadsAreShown}
 use Rattle.script_runner.specs.Run.{beats_of, drive_run}
-use Rattle.script_runner.proofs.Beats.{fold_parts}
 use Rattle.script_runner.proofs.OwnData.{IsOwn, WritesOwn, own_meant, own_written}
 use Rattle.script_runner.proofs.RunLaws.{ops_begin, none_before, along_at, gets_are_shown}
 
@@ -160,7 +160,7 @@ bad_reads_are_shown apart on_user order script turns ops good none before after 
     let more = ops_begin (scene_after s t) after in
     let whole : ops ≡ (s.ops ++ t.ops) ++ more.0 =
     sym good.history.own ∙ ap (λ (ts : List Beat). (fold scene_after start ts).ops) is_t
-    ∙ ap (λ (k : Scene). k.ops) (fold_parts scene_after start before (t ∷ after)) ∙ more.1 in
+    ∙ ap (λ (k : Scene). k.ops) (fold-append scene_after start before (t ∷ after)) ∙ more.1 in
     let last : strays (fold scene_after (scene_after s t) after).ops ≡ 0 = ap strays (more.1 ∙ sym whole) ∙ none in
     let turn = along_at scene_after GoodTurn start before after t (subst (λ (ts : List Beat). Along scene_after GoodTurn start ts) is_t good.history.good) in
     let lawful : all_along blocks_after (block_lawful (capacity s)) s.hist.blocks (earlier ++ Get c b Lost ∷ rest) ≡ true =

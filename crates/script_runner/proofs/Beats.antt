@@ -2,6 +2,7 @@
 use Rattle.std.proofs.Common.{◌≡◌, ◌∙◌, ap, subst, refl, ℕ, ◌+◌, ◌-◌, ◌≤◌, List, [], ◌∷◌, ◌++◌, map, length, take, drop, arith, Some}
 use Rattle.std.specs.Prelude.{fold, slice_range}
 use Rattle.std.proofs.lemmas.List.{map-append, take-append-le, drop-append-le, length-drop, length_push}
+use Rattle.std.proofs.lemmas.List.Sums.{fold-append}
 use Rattle.disk_base.specs.Along.{Along}
 use Rattle.disk_base.specs.declared.address.Psn.{Psn}
 use Rattle.geometry_map.specs.declared.size.Size.{Size}
@@ -25,11 +26,6 @@ module _ {S T : Type 0} (step : S → T → S) (P : S → T → Type 0) where
   pub along_more : (s : S) (xs : List T) (y : T) → Along step P s xs → P (fold step s xs) y → Along step P s (xs ++ y ∷ [])
   along_more s [] y all last = (last, tt)
   along_more s (x ∷ xs) y all last = (all.0, along_more (step s x) xs y all.1 last)
-
--- the state after two parts
-pub fold_parts : {S T : Type 0} (step : S → T → S) (s : S) (xs ys : List T) → fold step s (xs ++ ys) ≡ fold step (fold step s xs) ys
-fold_parts step s [] ys = refl
-fold_parts step s (x ∷ xs) ys = fold_parts step (step s x) xs ys
 
 -- the operations of turns that follow each other go forward
 forward : (from : ℕ) (turns : List Turn) (to : ℕ) → FollowFrom from turns to → from ≤ to
@@ -68,7 +64,7 @@ scene_on old new own beats size primary =
     ap (λ (bs : List Beat). fold scene_after (scene_at_start new.size new.primary) bs) beats
     ∙ ap (λ (z : Size). fold scene_after (scene_at_start z new.primary) (beats_of old ++ own)) size
     ∙ ap (λ (z : List Psn). fold scene_after (scene_at_start old.size z) (beats_of old ++ own)) primary
-    ∙ fold_parts scene_after (scene_at_start old.size old.primary) (beats_of old) own
+    ∙ fold-append scene_after (scene_at_start old.size old.primary) (beats_of old) own
 
 pub scene_next : (old new : Run) (t : Beat) → GoesOn old new t → scene_of new ≡ scene_after (scene_of old) t
 scene_next old new t goes = scene_on old new (t ∷ []) goes.beats goes.size goes.primary

@@ -11,6 +11,7 @@ pub mod Steps
 pub mod Members
 pub mod Lowering
 pub mod Arriving
+pub mod Underway
 pub mod Phases
 pub mod Lines
 pub mod Costs

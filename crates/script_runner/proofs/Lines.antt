@@ -26,7 +26,7 @@ use Rattle.script_runner.specs.Phase.{InHand, one_turn_on, IsPicked, ByOrder}
 use Rattle.script_runner.specs.CarriedOut.{CarriesPhase, CarryOut}
 use Rattle.script_runner.specs.Measure.{turns_left, turns_of_arrival, turns_of_line, turns_of_lines, turns_to_send, turns_of_phase, sum_upto}
 use Rattle.script_runner.specs.Phasing.{IsToSend, Carried, Happens}
-use Rattle.script_runner.specs.Leading.{Wait, IsAtRest, TakesLine, InScript, CarriesOut}
+use Rattle.script_runner.specs.Leading.{Wait, IsAtRest, TakesLine, CarriesOut}
 use Rattle.script_runner.specs.Run.{beats_of}
 use Rattle.script_runner.proofs.Places.{put_same, put_other}
 use Rattle.script_runner.proofs.Each.{each_append}
@@ -34,6 +34,7 @@ use Rattle.script_runner.proofs.Beats.{scene_on, scene_next}
 use Rattle.script_runner.proofs.Lowering.{turns_is}
 use Rattle.script_runner.proofs.Phases.{same_waiting}
 use Rattle.script_runner.proofs.Taking.{part_own, part_other}
+use Rattle.script_runner.proofs.Underway.{InScript}
 
 -- a drive's blocks
 same_blocks : (s : Scene) (turns : List Beat) → capacity (fold scene_after s turns) ≡ capacity s

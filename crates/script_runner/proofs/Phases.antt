@@ -4,6 +4,7 @@ use Rattle.std.specs.Prelude.{◌==◌, fold, filter, slice_get}
 use Rattle.std.specs.List.{list_all}
 use Rattle.std.specs.Option.{option_map}
 use Rattle.std.proofs.lemmas.List.{append-nil, drop_at}
+use Rattle.std.proofs.lemmas.List.Sums.{fold-append}
 use Rattle.std.proofs.lemmas.Nat.{mod_below}
 use Rattle.std.proofs.lemmas.Bool.Decides.{nat_tests}
 use Rattle.platter_model.specs.TrueLog.{is_off}
@@ -23,10 +24,11 @@ use Rattle.script_runner.specs.Arrivals.{Sends, sends_of, arrived_by, arrived_in
 use Rattle.script_runner.specs.Order.{drawn, number_of, order_after}
 use Rattle.script_runner.specs.Phase.{is_of_phase, waiting_of, InHand, one_turn_on, IsPicked}
 use Rattle.script_runner.specs.Run.{beats_of}
-use Rattle.script_runner.specs.Phasing.{InPhase, TakesTurn, Carried}
+use Rattle.script_runner.specs.Phasing.{TakesTurn, Carried}
 use Rattle.script_runner.specs.Measure.{turns_of_phase}
-use Rattle.script_runner.proofs.Beats.{along_more, fold_parts, scene_on}
+use Rattle.script_runner.proofs.Beats.{along_more, scene_on}
 use Rattle.script_runner.proofs.Picks.{picked_on, not_spent}
+use Rattle.script_runner.proofs.Underway.{InPhase}
 
 -- one item more
 all_more : {A : Type 0} (p : A → Bool) (xs : List A) (x : A) → list_all p xs ≡ true → p x ≡ true → list_all p (xs ++ x ∷ []) ≡ true
@@ -85,7 +87,7 @@ phase_on old now new order so_far next sends left after p phase is turn is_next 
           ∙ sym (append_assoc (arrived_in i phase.own) (arrived_by i turn.turn.entries) (after i)) ∙ ap (λ (xs : List Sent). xs ++ after i) (sym (came_more i phase.own turn.turn));
       by_rule = along_more one_turn_on (IsPicked sends) (record { scene = scene_of old; came = []; order = order }) phase.own turn.turn phase.by_rule
           (is_picked old now order so_far sends left p turn.turn phase (picked_on now (waiting_of left) (number_of (drawn so_far)) p is).1 turn.label);
-      drawn_once_a_turn = is_next ∙ ap drawn phase.drawn_once_a_turn ∙ sym (fold_parts (λ (x : Option ℕ) (t : Beat). drawn x) order phase.own (turn.turn ∷ []));
+      drawn_once_a_turn = is_next ∙ ap drawn phase.drawn_once_a_turn ∙ sym (fold-append (λ (x : Option ℕ) (t : Beat). drawn x) order phase.own (turn.turn ∷ []));
       served = turn.served;
       few = omega arith;
     }

@@ -2,6 +2,7 @@
 use Rattle.std.proofs.Common.{◌≡◌, ◌∙◌, ap, sym, refl, subst, ℕ, ◌≤◌, true, List, [], ◌∷◌, ◌++◌, ◌+◌, map, length, arith, append_assoc}
 use Rattle.std.specs.Prelude.{fold, Option}
 use Rattle.std.proofs.lemmas.List.{append-nil}
+use Rattle.std.proofs.lemmas.List.Sums.{fold-append}
 use Rattle.disk_base.specs.Along.{Along}
 use Rattle.geometry_map.specs.Size.{capacity_of}
 use Rattle.platter_model.specs.declared.op.Op.{Op}
@@ -30,7 +31,6 @@ use Rattle.script_runner.specs.Phase.{ByOrder}
 use Rattle.script_runner.specs.CarriedOut.{CarryOut}
 use Rattle.script_runner.specs.Run.{beats_of, drive_run}
 use Rattle.script_runner.specs.Laws.{OfGoodRuns, OfRunsWithoutStrays, AreLegal, AreTaskLegal, BeginningsAreLegal, NoneIsLeft, AllThatCameAreGone, GetsAreShown}
-use Rattle.script_runner.proofs.Beats.{fold_parts}
 
 -- strays of a beginning are some of all
 strays_more : (before xs ys : List Op) → strays_from before xs ≤ strays_from before (xs ++ ys)
@@ -102,7 +102,7 @@ empty_at_end : (lines : List Line) (order : Option ℕ) (s : Scene) (waiting : L
 empty_at_end [] order s waiting turns out = out.phase.idle
 empty_at_end (Go ∷ lines) order s waiting turns out =
     subst (λ (ts : List Beat). (fold scene_after s ts).hist.set ≡ []) (sym out.2)
-    (subst (λ (k : Scene). k.hist.set ≡ []) (sym (fold_parts scene_after s out.0 out.1)) (empty_at_end lines (order_after order out.0) (fold scene_after s out.0) [] out.1 out.4))
+    (subst (λ (k : Scene). k.hist.set ≡ []) (sym (fold-append scene_after s out.0 out.1)) (empty_at_end lines (order_after order out.0) (fold scene_after s out.0) [] out.1 out.4))
 empty_at_end (World w ∷ lines) order s waiting turns out =
     subst (λ (ts : List Beat). (fold scene_after s ts).hist.set ≡ []) (sym out.2) (empty_at_end lines order (scene_after s out.0) waiting out.1 out.4)
 empty_at_end (line ∷ lines) order s waiting turns out = empty_at_end lines order s (waiting ++ line ∷ []) turns out

@@ -1,8 +1,6 @@
 -- A script that a fresh drive carried out has a good run.
-use Rattle.std.proofs.Common.{◌≡◌, ◌∙◌, ap, sym, refl, subst, ℕ, List, [], ◌++◌, map}
+use Rattle.std.proofs.Common.{◌≡◌, ◌∙◌, ap, sym, subst, ℕ, List, [], ◌++◌, map}
 use Rattle.std.specs.Prelude.{Option}
-use Rattle.disk_base.specs.declared.address.Psn.{Psn}
-use Rattle.geometry_map.specs.declared.size.Size.{Size}
 use Rattle.platter_model.specs.declared.op.Op.{Op}
 use Rattle.block_machine.specs.declared.turn.Turn.{Turn}
 use Rattle.script_text.specs.declared.script.Script.{Script}

@@ -50,7 +50,7 @@ BeginningsAreLegal blocks turns = (first more : List Turn) → turns ≡ first +
 abbrev pub NoneIsLeft : ℕ → List Turn → Type 0
 NoneIsLeft blocks turns = (state_after blocks turns).set ≡ []
 
--- the commands that came are those that ended with a reply, were aborted by a function, and were cut off
+-- as many commands came as ended with a reply, were aborted by a function, and were cut off
 abbrev pub AllThatCameAreGone : ℕ → List Turn → Type 0
 AllThatCameAreGone blocks turns = (tally_of (entries_of turns)).came
     ≡ (tally_of (entries_of turns)).ended + (tally_of (entries_of turns)).aborted + (tally_of (entries_of turns)).cut

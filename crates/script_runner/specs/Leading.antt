@@ -8,7 +8,7 @@ use Rattle.script_runner.specs.Arrivals.{Sends, lines_of}
 use Rattle.script_runner.specs.Phase.{ByOrder}
 use Rattle.script_runner.specs.CarriedOut.{CarryOut}
 use Rattle.script_runner.specs.Phasing.{AreServed}
-use Rattle.script_runner.specs.Measure.{turns_of_line, turns_of_lines, turns_to_send}
+use Rattle.script_runner.specs.Measure.{turns_of_line, turns_to_send}
 use Rattle.script_runner.specs.Run.{beats_of}
 
 -- lines wait, and this is what they have sent
@@ -37,15 +37,6 @@ pub record TakesLine (old : Run) (order : Option ℕ) (sends : Sends) (line : Li
       ≤ length old.turns + turns_to_send (capacity_of old.size) sends + turns_of_line (capacity_of old.size) line
   pub leads : (waiting : List Line) → Wait waiting sends → (after : List Line) × Wait after left
       × ((rest : List Line) → Leads old order waiting (line ∷ rest) new next after rest)
-
--- the lines so far were taken
-pub record InScript (start : Run) (order : Option ℕ) (lines rest : List Line) (now : Run) (so_far : Option ℕ) (sends : Sends) : Type 0 where
-  pub waiting : List Line
-  pub waits : Wait waiting sends
-  pub at_rest : IsAtRest now sends
-  pub leads : Leads start order [] lines now so_far waiting rest
-  pub few : length now.turns + turns_to_send (capacity_of now.size) sends + turns_of_lines (capacity_of now.size) rest
-      ≤ length start.turns + turns_of_lines (capacity_of start.size) lines
 
 -- the lines were carried out
 pub record CarriesOut (old : Run) (order : Option ℕ) (lines : List Line) (new : Run) : Type 0 where

@@ -1,6 +1,5 @@
 -- How the loop of a phase goes on.
-use Rattle.std.specs.Prelude.{◌≡◌, ◌≢◌, ℕ, ◌+◌, ◌<◌, ◌≤◌, length, true, false, Bool, IsTrue, List, [], ◌∷◌, ◌++◌, Option}
-use Rattle.std.specs.List.{list_all}
+use Rattle.std.specs.Prelude.{◌≡◌, ◌≢◌, ℕ, ◌+◌, ◌<◌, ◌≤◌, length, true, false, Bool, List, [], ◌∷◌, ◌++◌, Option}
 use Rattle.platter_model.specs.declared.world.World.{World}
 use Rattle.block_machine.specs.declared.turn.Label.TheVariants as label
 use Rattle.drive_core.specs.declared.event.Arrival.{Arrival}
@@ -15,7 +14,7 @@ use Rattle.drive_core.specs.Served.{IsServedArrival}
 use Rattle.drive_core.specs.Turning.{label_of_pick, initiator_of, AddsTurn}
 use Rattle.drive_core.specs.Run.{Run, IsGoodRun, scene_of}
 use Rattle.script_runner.specs.Each.{Each}
-use Rattle.script_runner.specs.Arrivals.{Sends, arrived_by, arrived_in}
+use Rattle.script_runner.specs.Arrivals.{Sends, arrived_by}
 use Rattle.script_runner.specs.Order.{order_after}
 use Rattle.script_runner.specs.Phase.{is_of_phase, ByOrder}
 use Rattle.script_runner.specs.CarriedOut.{CarriesPhase}
@@ -65,19 +64,6 @@ pub record TakesTurn (old : Run) (sends : Sends) (p : Pick) (new : Run) (left : 
   pub served : AreServed left
   pub counted : length new.turns ≡ length old.turns + 1
   pub fewer : turns_of_phase (scene_of new) left < turns_of_phase (scene_of old) sends
-
--- a phase is in hand, and an order
-pub record InPhase (old : Run) (order : Option ℕ) (sends : Sends) (now : Run) (so_far : Option ℕ) (left : Sends) : Type 0 where
-  pub own : List Beat
-  pub beats : beats_of now ≡ beats_of old ++ own
-  pub size : now.size ≡ old.size
-  pub primary : now.primary ≡ old.primary
-  pub kinds : IsTrue (list_all (λ t. is_of_phase t.label) own)
-  pub arrivals : (i : ℕ) → sends i ≡ arrived_in i own ++ left i
-  pub by_rule : ByOrder order (scene_of old) sends own
-  pub drawn_once_a_turn : so_far ≡ order_after order own
-  pub served : AreServed left
-  pub few : length now.turns + turns_of_phase (scene_of now) left ≤ length old.turns + turns_of_phase (scene_of old) sends
 
 -- a phase was carried out
 pub record Carried (old : Run) (order : Option ℕ) (sends : Sends) (new : Run) (next : Option ℕ) : Type 0 where

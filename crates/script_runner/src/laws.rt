@@ -1,4 +1,4 @@
-//! Laws on good runs of scripts, each the clause of a function that does nothing.
+//! Laws on good runs of scripts, each the clause of a function that changes nothing.
 //!
 //! Those that speak of strays hold of runs in which no damage was taken for another payload; the others of every run.
 
@@ -31,14 +31,14 @@ pub fn reads_give_hardened_or_newer()
     ensures { OfRunsWithoutStrays ReadsGiveHardenedOrNewer }
 {}
 
-/// Without strays, the first read after a power cut that isn't bad settles what the block has: each later one gives the same
-/// or is bad, until a newer value is put or the block is given up.
+/// Without strays, the first read after a power cut that isn't bad settles what the block has, where nothing newer was put since
+/// the cut and the block wasn't given up: each later one gives the same or is bad, for as long as that stays so.
 pub fn first_read_settles()
     ensures { OfRunsWithoutStrays FirstReadSettles }
 {}
 
-/// When a run is over, the commands that came have ended, were aborted, or were cut off. Each end is GOOD, CHECK CONDITION
-/// or TASK SET FULL; none has two ends, of which one may be an abort; and one that ends with success started.
+/// When a run is over, no command is in, and as many came as ended, were aborted and were cut off. Each end is GOOD, CHECK
+/// CONDITION or TASK SET FULL; none ends twice, or ends and is aborted; and one that ends with success started.
 pub fn commands_are_accounted_for()
     ensures idle { OfGoodRuns NoneIsLeft }
     ensures sum { OfGoodRuns AllThatCameAreGone }
@@ -69,8 +69,9 @@ pub fn reads_get_each_block_once()
     ensures { OfGoodRuns ReadsGetEachBlockOnce }
 {}
 
-/// A read gives a block's data where a stage finds them, and UNRECOVERED READ ERROR only where each stage failed or a lost
-/// value was found. Without strays no lost value is found, so each stage failed.
+/// What a command gets of a block that isn't dirty are data that a stage found after those before it found nothing, or, where
+/// its mode values and its command block allow the cache, data that were put or found since the power came on. It gets the
+/// block as lost only where each stage found nothing or one found a lost mark; without strays, only where each found nothing.
 pub fn gets_are_shown()
     ensures found { GetsAreShown }
     ensures bad { BadReadsAreShown }

@@ -1,7 +1,7 @@
 // Scripts and their reports.
 use crate::tests::{bytes, calls};
 use crate::{Outcome, serve_alone};
-use block_machine::Turn;
+use block_machine::{Turn, Turns};
 use disk_base::Bytes;
 use history_replay::{ReplayFault, legal, replay};
 use outside::{MemorySink, MemorySource};
@@ -9,39 +9,34 @@ use report_text::{ReportFault, read_run};
 use std::alloc::Global;
 use std::test::Fail;
 
+// A script, its report, and how many blocks its drive has.
+#[derive(Clone, Copy)]
+struct Example {
+    script: &'static str,
+    report: &'static str,
+    blocks: u64,
+}
+
 // A first command takes the attention, and then a block is read.
-const READ: &[u8] = b"cmd 1 7 S 000000000000
+const READ: Example = Example {
+    script: "cmd 1 7 S 000000000000
 go
 cmd 1 8 S 28000000000000000100
 go
-";
-
-const READ_REPORT: &[u8] = b"1 arrive 1 > in 1 1 7 S 000000000000 -
+",
+    report: "1 arrive 1 > in 1 1 7 S 000000000000 -
 2 work 1 > start 1 > end 1 02 700006000000000A00000000290100000000
 3 arrive 1 > in 2 1 8 S 28000000000000000100 -
 4 work 2 > start 2
 5 work 2 < fetch 16 0 0 < tried 16 0 found > get 2 0 *00 > end 2 00
 turns 5 commands 2 good 1 check 1 full 0 aborted 0 cut 0 strays 0
-";
-
-// The same with another value, and without its second line.
-const ANOTHER_VALUE: &[u8] = b"1 arrive 1 > in 1 1 7 S 000000000000 -
-2 work 1 > start 1 > end 1 02 700006000000000A00000000290100000000
-3 arrive 1 > in 2 1 8 S 28000000000000000100 -
-4 work 2 > start 2
-5 work 2 < fetch 16 0 0 < tried 16 0 found > get 2 0 *01 > end 2 00
-turns 5 commands 2 good 1 check 1 full 0 aborted 0 cut 0 strays 0
-";
-
-const WITHOUT_A_LINE: &[u8] = b"1 arrive 1 > in 1 1 7 S 000000000000 -
-3 arrive 1 > in 2 1 8 S 28000000000000000100 -
-4 work 2 > start 2
-5 work 2 < fetch 16 0 0 < tried 16 0 found > get 2 0 *00 > end 2 00
-turns 5 commands 2 good 1 check 1 full 0 aborted 0 cut 0 strays 0
-";
+",
+    blocks: 912,
+};
 
 // Reads at the end of the drive, past it, and of too many blocks.
-const RANGES: &[u8] = b"cmd 1 7 S 000000000000
+const RANGES: Example = Example {
+    script: "cmd 1 7 S 000000000000
 go
 cmd 1 1 S 28000000039000000000
 cmd 1 2 S 28000000039000000100
@@ -49,9 +44,8 @@ cmd 1 3 S 28000000038F00000100
 cmd 1 4 S 28000000039100000000
 cmd 1 5 S 8800FFFFFFFFFFFFFFFF000000010000
 cmd 1 6 S 28000000000000010100
-";
-
-const RANGES_REPORT: &[u8] = b"1 arrive 1 > in 1 1 7 S 000000000000 -
+",
+    report: "1 arrive 1 > in 1 1 7 S 000000000000 -
 2 work 1 > start 1 > end 1 02 700006000000000A00000000290100000000
 3 arrive 1 > in 2 1 1 S 28000000039000000000 -
 4 arrive 1 > in 3 1 2 S 28000000039000000100 -
@@ -67,10 +61,13 @@ const RANGES_REPORT: &[u8] = b"1 arrive 1 > in 1 1 7 S 000000000000 -
 14 work 6 > start 6 > end 6 02 700005000000000A00000000210000000000
 15 work 7 > start 7 > end 7 02 700005000000000A00000000240000000000
 turns 15 commands 7 good 2 check 5 full 0 aborted 0 cut 0 strays 0
-";
+",
+    blocks: 912,
+};
 
 // What a system sends as it finds a disk: identity, capacities, pages and defect lists.
-const SYSTEM_START: &[u8] = b"cmd 1 1 S 120000002400
+const SYSTEM_START: Example = Example {
+    script: "cmd 1 1 S 120000002400
 go
 cmd 1 2 S 000000000000
 go
@@ -107,9 +104,8 @@ cmd 1 19 S 030000001200
 go
 cmd 1 20 S 5A08080000000000FF00
 go
-";
-
-const SYSTEM_START_REPORT: &[u8] = b"1 arrive 1 > in 1 1 1 S 120000002400 -
+",
+    report: "1 arrive 1 > in 1 1 1 S 120000002400 -
 2 work 1 > start 1 > page 1 000006021F000002504C41545445522053494D554C41544544204449534B202030313030 > end 1 00
 3 arrive 1 > in 2 1 2 S 000000000000 -
 4 work 2 > start 2 > end 2 02 700006000000000A00000000290100000000
@@ -159,10 +155,13 @@ const SYSTEM_START_REPORT: &[u8] = b"1 arrive 1 > in 1 1 1 S 120000002400 -
 48 arrive 1 > in 20 1 20 S 5A08080000000000FF00 -
 49 work 20 > start 20 > page 20 001A0010000000000812040000000000000000000000000000000000 > end 20 00
 turns 49 commands 20 good 18 check 2 full 0 aborted 0 cut 0 strays 0
-";
+",
+    blocks: 912,
+};
 
 // CLEAR TASK SET and LOGICAL UNIT RESET, and whom they warn.
-const FUNCTIONS: &[u8] = b"disk 3 1 32 40
+const FUNCTIONS: Example = Example {
+    script: "disk 3 1 32 40
 cmd 1 60001 S 000000000000
 cmd 2 60002 S 000000000000
 cmd 3 60003 S 000000000000
@@ -181,9 +180,8 @@ cmd 1 60001 S 000000000000
 cmd 2 60002 S 000000000000
 cmd 3 60003 S 000000000000
 go
-";
-
-const FUNCTIONS_REPORT: &[u8] = b"1 arrive 1 > in 1 1 60001 S 000000000000 -
+",
+    report: "1 arrive 1 > in 1 1 60001 S 000000000000 -
 2 arrive 2 > in 2 2 60002 S 000000000000 -
 3 arrive 3 > in 3 3 60003 S 000000000000 -
 4 work 1 > start 1 > end 1 02 700006000000000A00000000290100000000
@@ -206,33 +204,37 @@ const FUNCTIONS_REPORT: &[u8] = b"1 arrive 1 > in 1 1 60001 S 000000000000 -
 21 work 10 > start 10 > end 10 02 700006000000000A00000000290300000000
 22 work 11 > start 11 > end 11 02 700006000000000A00000000290300000000
 turns 22 commands 11 good 1 check 8 full 0 aborted 2 cut 0 strays 0
-";
+",
+    blocks: 40,
+};
 
 // A command is aborted before it starts.
-const ABORT: &[u8] = b"cmd 1 60001 S 000000000000
+const ABORT: Example = Example {
+    script: "cmd 1 60001 S 000000000000
 go
 cmd 1 1 O 000000000000
 abort 1 1
-";
-
-const ABORT_REPORT: &[u8] = b"1 arrive 1 > in 1 1 60001 S 000000000000 -
+",
+    report: "1 arrive 1 > in 1 1 60001 S 000000000000 -
 2 work 1 > start 1 > end 1 02 700006000000000A00000000290100000000
 3 arrive 1 > in 2 1 1 O 000000000000 -
 4 arrive 1 > func 1 abort 1 > gone 2
 turns 4 commands 2 good 0 check 1 full 0 aborted 1 cut 0 strays 0
-";
+",
+    blocks: 912,
+};
 
 // Two rereads fail, and the third try finds the data; the second read finds them in the cache.
-const SOFT: &[u8] = b"disk 1 1 48 2
+const SOFT: Example = Example {
+    script: "disk 1 1 48 2
 cmd 1 7 S 000000000000
 go
 damage 16 0 9478 soft 2 drop
 cmd 1 1 S 28000000000000000100
 go
 cmd 1 2 S 28000000000000000100
-";
-
-const SOFT_REPORT: &[u8] = b"1 arrive 1 > in 1 1 7 S 000000000000 -
+",
+    report: "1 arrive 1 > in 1 1 7 S 000000000000 -
 2 work 1 > start 1 > end 1 02 700006000000000A00000000290100000000
 3 damage 16 0 9478 soft 2 drop < damaged 16
 4 arrive 1 > in 2 1 1 S 28000000000000000100 -
@@ -244,18 +246,20 @@ const SOFT_REPORT: &[u8] = b"1 arrive 1 > in 1 1 7 S 000000000000 -
 10 work 3 > start 3
 11 work 3 > get 3 0 *00 > end 3 00
 turns 11 commands 3 good 2 check 1 full 0 aborted 0 cut 0 strays 0
-";
+",
+    blocks: 30,
+};
 
 // All ten stages of retry count 5 fail: UNRECOVERED READ ERROR at the block.
-const HARD: &[u8] = b"disk 1 1 48 2
+const HARD: Example = Example {
+    script: "disk 1 1 48 2
 cmd 1 7 S 000000000000
 go
 damage 16 0 9478 hard drop
 cmd 1 1 S 28000000000000000100
 go
-";
-
-const HARD_REPORT: &[u8] = b"1 arrive 1 > in 1 1 7 S 000000000000 -
+",
+    report: "1 arrive 1 > in 1 1 7 S 000000000000 -
 2 work 1 > start 1 > end 1 02 700006000000000A00000000290100000000
 3 damage 16 0 9478 hard drop < damaged 16
 4 arrive 1 > in 2 1 1 S 28000000000000000100 -
@@ -271,19 +275,21 @@ const HARD_REPORT: &[u8] = b"1 arrive 1 > in 1 1 7 S 000000000000 -
 14 work 2 < fetch 16 5 0 < tried 16 8 none
 15 work 2 < fetch 16 5 0 < tried 16 9 none > get 2 0 bad > end 2 02 F00003000000000A00000000110000000000
 turns 15 commands 2 good 0 check 2 full 0 aborted 0 cut 0 strays 0
-";
+",
+    blocks: 30,
+};
 
 // A write, its sync, and a read of the block.
-const SYNC: &[u8] = b"disk 1 1 48 2
+const SYNC: Example = Example {
+    script: "disk 1 1 48 2
 cmd 1 7 S 000000000000
 go
 cmd 1 1 S 2A000000000500000100 *11
 cmd 1 2 S 35000000000500000100
 cmd 1 3 S 28000000000500000100
 go
-";
-
-const SYNC_REPORT: &[u8] = b"1 arrive 1 > in 1 1 7 S 000000000000 -
+",
+    report: "1 arrive 1 > in 1 1 7 S 000000000000 -
 2 work 1 > start 1 > end 1 02 700006000000000A00000000290100000000
 3 arrive 1 > in 2 1 1 S 2A000000000500000100 *11
 4 arrive 1 > in 3 1 2 S 35000000000500000100 -
@@ -295,10 +301,12 @@ const SYNC_REPORT: &[u8] = b"1 arrive 1 > in 1 1 7 S 000000000000 -
 10 work 4 > start 4
 11 work 4 > get 4 5 *11 > end 4 00
 turns 11 commands 4 good 3 check 1 full 0 aborted 0 cut 0 strays 0
-";
+",
+    blocks: 30,
+};
 
 // Three initiators by an order that begins with 7, and by one that begins with 1103.
-const ORDER: &[u8] = b"disk 1 1 48 2
+const ORDER: &str = "disk 1 1 48 2
 cmd 1 1 S 000000000000
 cmd 2 1 S 000000000000
 cmd 3 1 S 000000000000
@@ -308,7 +316,7 @@ cmd 2 2 S 000000000000
 go
 ";
 
-const ORDER_7_REPORT: &[u8] = b"1 arrive 2 > in 1 2 1 S 000000000000 -
+const ORDER_7_REPORT: &str = "1 arrive 2 > in 1 2 1 S 000000000000 -
 2 work 1 > start 1 > end 1 02 700006000000000A00000000290100000000
 3 arrive 1 > in 2 1 1 S 000000000000 -
 4 arrive 3 > in 3 3 1 S 000000000000 -
@@ -321,7 +329,7 @@ const ORDER_7_REPORT: &[u8] = b"1 arrive 2 > in 1 2 1 S 000000000000 -
 turns 10 commands 5 good 2 check 3 full 0 aborted 0 cut 0 strays 0
 ";
 
-const ORDER_1103_REPORT: &[u8] = b"1 arrive 3 > in 1 3 1 S 000000000000 -
+const ORDER_1103_REPORT: &str = "1 arrive 3 > in 1 3 1 S 000000000000 -
 2 arrive 1 > in 2 1 1 S 000000000000 -
 3 arrive 2 > in 3 2 1 S 000000000000 -
 4 work 1 > start 1 > end 1 02 700006000000000A00000000290100000000
@@ -353,21 +361,21 @@ fn are_legal(alloc: Global, turns: &[Turn], blocks: u64) -> Result<bool, Fail> {
 
 #[test]
 fn reports(rt: HostRuntime) -> Result<(), Fail> {
-    for (script, report, blocks) in [
-        (READ, READ_REPORT, 912),
-        (RANGES, RANGES_REPORT, 912),
-        (SYSTEM_START, SYSTEM_START_REPORT, 912),
-        (FUNCTIONS, FUNCTIONS_REPORT, 40),
-        (ABORT, ABORT_REPORT, 912),
-        (SOFT, SOFT_REPORT, 30),
-        (HARD, HARD_REPORT, 30),
-        (SYNC, SYNC_REPORT, 30),
+    for example in [
+        READ,
+        RANGES,
+        SYSTEM_START,
+        FUNCTIONS,
+        ABORT,
+        SOFT,
+        HARD,
+        SYNC,
     ] {
-        let (outcome, got) = carried_out(rt.alloc(), &["run"], script)?;
-        assert_eq!(rt; got.as_slice(), report);
+        let (outcome, got) = carried_out(rt.alloc(), &["run"], example.script.as_bytes())?;
+        assert_eq!(rt; got.as_slice(), example.report.as_bytes());
         match outcome {
             Outcome::Served(run) => {
-                assert!(rt; are_legal(rt.alloc(), run.turns.as_slice(), blocks)?);
+                assert!(rt; are_legal(rt.alloc(), run.turns.as_slice(), example.blocks)?);
             }
             _ => return Err(Fail::from("a script was not served")),
         }
@@ -378,8 +386,8 @@ fn reports(rt: HostRuntime) -> Result<(), Fail> {
 #[test]
 fn orders(rt: HostRuntime) -> Result<(), Fail> {
     for (number, report) in [("7", ORDER_7_REPORT), ("1103", ORDER_1103_REPORT)] {
-        let (_, got) = carried_out(rt.alloc(), &["run", "--order", number], ORDER)?;
-        assert_eq!(rt; got.as_slice(), report);
+        let (_, got) = carried_out(rt.alloc(), &["run", "--order", number], ORDER.as_bytes())?;
+        assert_eq!(rt; got.as_slice(), report.as_bytes());
     }
     Ok(())
 }
@@ -399,20 +407,30 @@ fn a_full_task_set(rt: HostRuntime) -> Result<(), Fail> {
     Ok(())
 }
 
+// What the report of READ reads as, with another text in place of one. It stays short enough for its lines to be numbered.
+fn read_altered(alloc: Global, old: &str, new: &str) -> Result<Result<Turns, ReportFault>, Fail> {
+    let text = READ.report.replace(alloc, old, new)?;
+    if text.len() > 1000 {
+        return Err(Fail::from("a short report became long"));
+    }
+    Ok(read_run(alloc, text.as_bytes()))
+}
+
 // A report reads back as turns that are a legal history; where the read gives another value, they aren't, from its turn on.
 #[test]
 fn replays(rt: HostRuntime) -> Result<(), Fail> {
     let alloc = rt.alloc();
-    let turns = read_run(alloc, READ_REPORT)?;
+    let turns = read_run(alloc, READ.report.as_bytes())?;
     assert!(rt; legal(alloc, turns.as_slice(), 912)?);
     assert!(rt; replay(alloc, turns.as_slice(), 912)?.as_slice().len() == 912);
-    let altered = read_run(alloc, ANOTHER_VALUE)?;
+    let altered = read_altered(alloc, "*00", "*01")??;
     assert!(rt; !legal(alloc, altered.as_slice(), 912)?);
     match replay(alloc, altered.as_slice(), 912) {
         Err(ReplayFault::Step { turn }) => assert_eq!(rt; turn, 5),
         _ => return Err(Fail::from("another value was taken")),
     }
-    match read_run(alloc, WITHOUT_A_LINE) {
+    let second_line = "2 work 1 > start 1 > end 1 02 700006000000000A00000000290100000000\n";
+    match read_altered(alloc, second_line, "")? {
         Err(ReportFault::Line(line)) => assert_eq!(rt; line, 2),
         _ => return Err(Fail::from("a report without a line was read")),
     }

@@ -1,6 +1,6 @@
 use Rattle.std.proofs.Common.{drop}
 use Rattle.script_runner.specs.Arrivals.{sends_of}
-use Rattle.script_runner.specs.Leading.{InScript}
+use Rattle.script_runner.proofs.Underway.{InScript}
 use Rattle.script_runner.proofs.carrying.carry_out.Given as goal
 
 abbrev pub invariant-loop-line : goal.invariant-loop-line

@@ -1,5 +1,5 @@
 -- a fresh drive of the script's measures
-use Rattle.std.proofs.Common.{◌≡◌, ◌∙◌, ap, List}
+use Rattle.std.proofs.Common.{◌∙◌, ap, List}
 use Rattle.disk_base.specs.declared.address.Psn.{Psn}
 use Rattle.drive_core.specs.Run.{run_at_start}
 use Rattle.script_runner.proofs.carrying.made.Goals as goal

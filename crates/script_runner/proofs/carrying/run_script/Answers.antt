@@ -1,5 +1,5 @@
 -- the drive of a script carried its lines out
-use Rattle.std.proofs.Common.{sym, subst, List}
+use Rattle.std.proofs.Common.{subst, List}
 use Rattle.script_text.specs.declared.script.Line.{Line}
 use Rattle.script_runner.specs.Leading.{CarriesOut}
 use Rattle.script_runner.proofs.Running.{good_run}

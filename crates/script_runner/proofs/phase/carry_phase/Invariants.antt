@@ -1,7 +1,7 @@
 use Rattle.drive_core.specs.Run.{scene_of}
 use Rattle.script_runner.specs.Arrivals.{sends_of}
-use Rattle.script_runner.specs.Phasing.{InPhase}
 use Rattle.script_runner.specs.Measure.{turns_of_phase}
+use Rattle.script_runner.proofs.Underway.{InPhase}
 use Rattle.script_runner.proofs.phase.carry_phase.Given as goal
 
 abbrev pub invariant-loop-pick : goal.invariant-loop-pick

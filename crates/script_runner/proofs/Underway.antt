@@ -1,0 +1,36 @@
+-- What holds in the midst of a phase's turns, and of a script's lines.
+use Rattle.std.specs.Prelude.{◌≡◌, ℕ, ◌+◌, ◌≤◌, IsTrue, List, [], ◌++◌, length, Option}
+use Rattle.std.specs.List.{list_all}
+use Rattle.geometry_map.specs.Size.{capacity_of}
+use Rattle.script_text.specs.declared.script.Line.{Line}
+use Rattle.drive_core.specs.Scene.{Beat}
+use Rattle.drive_core.specs.Run.{Run, scene_of}
+use Rattle.script_runner.specs.Arrivals.{Sends, arrived_in}
+use Rattle.script_runner.specs.Order.{order_after}
+use Rattle.script_runner.specs.Phase.{is_of_phase, ByOrder}
+use Rattle.script_runner.specs.Phasing.{AreServed}
+use Rattle.script_runner.specs.Leading.{Wait, IsAtRest, Leads}
+use Rattle.script_runner.specs.Measure.{turns_of_phase, turns_of_lines, turns_to_send}
+use Rattle.script_runner.specs.Run.{beats_of}
+
+-- a phase is in hand, and an order
+pub record InPhase (old : Run) (order : Option ℕ) (sends : Sends) (now : Run) (so_far : Option ℕ) (left : Sends) : Type 0 where
+  pub own : List Beat
+  pub beats : beats_of now ≡ beats_of old ++ own
+  pub size : now.size ≡ old.size
+  pub primary : now.primary ≡ old.primary
+  pub kinds : IsTrue (list_all (λ t. is_of_phase t.label) own)
+  pub arrivals : (i : ℕ) → sends i ≡ arrived_in i own ++ left i
+  pub by_rule : ByOrder order (scene_of old) sends own
+  pub drawn_once_a_turn : so_far ≡ order_after order own
+  pub served : AreServed left
+  pub few : length now.turns + turns_of_phase (scene_of now) left ≤ length old.turns + turns_of_phase (scene_of old) sends
+
+-- the lines so far were taken
+pub record InScript (start : Run) (order : Option ℕ) (lines rest : List Line) (now : Run) (so_far : Option ℕ) (sends : Sends) : Type 0 where
+  pub waiting : List Line
+  pub waits : Wait waiting sends
+  pub at_rest : IsAtRest now sends
+  pub leads : Leads start order [] lines now so_far waiting rest
+  pub few : length now.turns + turns_to_send (capacity_of now.size) sends + turns_of_lines (capacity_of now.size) rest
+      ≤ length start.turns + turns_of_lines (capacity_of start.size) lines
