@@ -127,52 +127,59 @@ fn sinks_of_each_room(rt: HostRuntime) -> Result<(), Fail> {
     Ok(())
 }
 
+const AGAIN: Attempt = Attempt {
+    reread: 2,
+    offset: -1,
+};
+
+const STAGE: Stage = Stage {
+    number: 3,
+    reread: 2,
+    offset: -1,
+    how: How::Light,
+};
+
+const DAMAGE: Damage = Damage {
+    p: Psn(20),
+    first: 0,
+    count: 1,
+    lasting: Lasting::Hard,
+    effect: Effect::Drop,
+};
+
+const TEAR: Tear = Tear {
+    left: Left::Old,
+    scar: 9,
+};
+
 // Every operation: the third write of a sector stays, and the try finds another payload than that.
 fn every_operation(alloc: Global) -> Result<Ops, Fail> {
     let p = Psn(20);
     let payload = Payload::user(p, Lba(4), &[7; BLOCK_LENGTH]);
     let other = Payload::user(p, Lba(4), &[8; BLOCK_LENGTH]);
-    let attempt = Attempt {
-        reread: 2,
-        offset: -1,
-    };
-    let stage = Stage {
-        number: 3,
-        reread: 2,
-        offset: -1,
-        how: How::Light,
-    };
-    let damage = Damage {
-        p,
-        first: 0,
-        count: 1,
-        lasting: Lasting::Hard,
-        effect: Effect::Drop,
-    };
     let mut ops = Ops::new(alloc);
     ops.push(Op::Wrote { payload: other })?;
     ops.push(Op::Wrote { payload })?;
-    ops.push(Op::Damaged { damage })?;
-    ops.push(Op::Fetched { p, attempt })?;
+    ops.push(Op::Damaged { damage: DAMAGE })?;
+    ops.push(Op::Fetched { p, attempt: AGAIN })?;
     ops.push(Op::Tried {
         at: 3,
         p,
-        stage,
+        stage: STAGE,
         found: None,
     })?;
     ops.push(Op::Tried {
         at: 3,
         p,
-        stage,
+        stage: STAGE,
         found: Some(other),
     })?;
     ops.push(Op::Faulty { p })?;
     ops.push(Op::WriteFailed { p })?;
-    let tear = Tear {
-        left: Left::Old,
-        scar: 9,
-    };
-    ops.push(Op::Torn { payload, tear })?;
+    ops.push(Op::Torn {
+        payload,
+        tear: TEAR,
+    })?;
     ops.push(Op::Cut)?;
     ops.push(Op::Power)?;
     Ok(ops)

@@ -8,7 +8,7 @@ use Rattle.script_runner.specs.Arrivals.{Sends, lines_of}
 use Rattle.script_runner.specs.Order.{order_after}
 use Rattle.script_runner.specs.Phase.{IsPhase}
 
--- a rule which of its turns come first in a phase, by the order when it begins
+-- a rule which turn comes next, at each turn of a phase, by the order as it stands when the phase begins
 abbrev pub Rule : Type 1
 Rule = Option ℕ → Scene → Sends → List Beat → Type 0
 

@@ -72,10 +72,9 @@ turns_to_send blocks sends = sum_upto (λ i. sum_by (turns_of_arrival blocks) (s
 abbrev pub turns_of_phase : Scene → Sends → ℕ
 turns_of_phase s sends = turns_to_send (capacity s) sends + sum_upto (turns_left s) s.hist.arrived
 
--- the turns of lines
+-- at most so many turns does a line have
 abbrev pub turns_of_line : ℕ → Line → ℕ
 turns_of_line blocks (line.Command i tag attribute cdb sent) = turns_of_arrival blocks (Command i tag attribute cdb sent)
-turns_of_line blocks (line.World event) = 1
 turns_of_line blocks other = 1
 
 abbrev pub turns_of_lines : ℕ → List Line → ℕ
