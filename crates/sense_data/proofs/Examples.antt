@@ -1,8 +1,8 @@
 -- Bytes of sense data, and lists of attentions, by examples.
-use Rattle.std.proofs.Common.{◌≡◌, false, [], ◌∷◌, Some, None, refl}
+use Rattle.std.proofs.Common.{◌≡◌, true, false, [], ◌∷◌, Some, None, refl}
 use Rattle.sense_data.specs.declared.sense.Sense.{Sense}
 use Rattle.sense_data.specs.Sense.{sense_of, sense_bytes}
-use Rattle.sense_data.specs.Attentions.{Waiting, attention, waiting_for, raised, first_taken, first_of, none_waiting, power_on_waiting, none_twice}
+use Rattle.sense_data.specs.Attentions.{Waiting, attention, waiting_for, raised, raised_where, first_taken, first_of, none_waiting, power_on_waiting, none_twice}
 
 power_on-bytes : sense_bytes (sense_of 6 0x29 0x01) ≡ 0x70 ∷ 0 ∷ 6 ∷ 0 ∷ 0 ∷ 0 ∷ 0 ∷ 0x0A ∷ 0 ∷ 0 ∷ 0 ∷ 0 ∷ 0x29 ∷ 1 ∷ 0 ∷ 0 ∷ 0 ∷ 0 ∷ []
 power_on-bytes = refl
@@ -42,6 +42,16 @@ told-once = refl
 told-first : first_of (first_taken told 3) 3 ≡ Some (sense_of 6 0x29 0x03)
 unfolding told
 told-first = refl
+
+-- raised for those that are marked, and for nobody else
+marked : waiting_for (raised_where (false ∷ true ∷ false ∷ []) (attention 0x2A 0x04) none_waiting) 2 ≡ attention 0x2A 0x04 ∷ []
+marked = refl
+
+not-marked : waiting_for (raised_where (false ∷ true ∷ false ∷ []) (attention 0x2A 0x04) none_waiting) 3 ≡ []
+not-marked = refl
+
+marked-once : raised_where (true ∷ []) (attention 0x29 0x01) power_on_waiting ≡ power_on_waiting
+marked-once = refl
 
 nothing-first : first_of (first_taken power_on_waiting 8) 8 ≡ None
 nothing-first = refl

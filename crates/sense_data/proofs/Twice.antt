@@ -1,9 +1,9 @@
 -- No attention waits twice.
-use Rattle.std.proofs.Common.{◌≡◌, ℕ, suc, ◌≤◌, ◌==◌, Bool, true, false, ◌||◌, not, List, [], ◌∷◌, ◌++◌, length, filter, refl, ap, ◌∙◌, arith, IsTrue, cond}
+use Rattle.std.proofs.Common.{◌≡◌, ℕ, suc, ◌≤◌, ◌==◌, Bool, true, false, ◌||◌, ◌&&◌, not, List, [], ◌∷◌, ◌++◌, length, drop, filter, refl, ap, ◌∙◌, arith, IsTrue, cond}
 use Rattle.std.proofs.lemmas.Bool.{not-true, eqb-true, and_parts, or_parts}
 use Rattle.std.proofs.lemmas.Bool.Decides.{nat_tests}
 use Rattle.sense_data.specs.declared.attention.Attention.{Attention}
-use Rattle.sense_data.specs.Attentions.{attention, same_attention, waits_in, none_twice, all_among}
+use Rattle.sense_data.specs.Attentions.{AreAmong, attention, same_attention, waits_in, with_attention, none_twice, all_among}
 
 -- which of two numbers stands first doesn't matter, nor which of two attentions
 eqb-sym : (x y : ℕ) → (x == y) ≡ (y == x)
@@ -102,3 +102,31 @@ length-among known (x ∷ xs) once among =
     let kept = all_among-without x known xs new (and_parts (waits_in x known) (all_among known xs) among).1 in
     let rest = length-among (without x known) xs (and_parts (not (waits_in x xs)) (none_twice xs) once).1 kept in
     omega arith
+
+and_both : (x y : Bool) → x ≡ true → y ≡ true → (x && y) ≡ true
+and_both true y h k = k
+and_both false y h k = h
+
+-- each is among these still where one of these stands at the end
+all_among-push : (known : List Attention) (a : Attention) (xs : List Attention) → IsTrue (all_among known xs) → IsTrue (waits_in a known)
+    → IsTrue (all_among known (xs ++ a ∷ []))
+all_among-push known a [] all here = and_both (waits_in a known) true here refl
+all_among-push known a (x ∷ xs) all here =
+    let parts = and_parts (waits_in x known) (all_among known xs) all in
+    and_both (waits_in x known) (all_among known (xs ++ a ∷ [])) parts.0 (all_among-push known a xs parts.1 here)
+
+-- by whether it waits already
+among-with : (waits : Bool) (known : List Attention) (a : Attention) (xs : List Attention) → waits_in a xs ≡ waits → IsTrue (waits_in a known)
+    → AreAmong known xs → AreAmong known (cond waits xs (xs ++ a ∷ []))
+among-with true known a xs at is among = among
+among-with false known a xs at is among = (none_twice-push a xs at among.0, all_among-push known a xs among.1 is)
+
+-- without the first
+among-rest : (known xs : List Attention) → AreAmong known xs → AreAmong known (drop 1 xs)
+among-rest known [] among = among
+among-rest known (x ∷ xs) among = ((and_parts (not (waits_in x xs)) (none_twice xs) among.0).1, (and_parts (waits_in x known) (all_among known xs) among.1).1)
+
+-- where none waits twice and each is among these, so it is with one of these raised, and without the first
+pub among-stay : (known : List Attention) (a : Attention) (xs : List Attention) → IsTrue (waits_in a known) → AreAmong known xs
+    → AreAmong known (with_attention a xs) × AreAmong known (drop 1 xs)
+among-stay known a xs is among = (among-with (waits_in a xs) known a xs refl is among, among-rest known xs among)

@@ -38,6 +38,10 @@ none_twice (a ∷ rest) = not (waits_in a rest) && none_twice rest
 abbrev pub all_among : List Attention → List Attention → Bool
 all_among known attentions = list_all (λ a. waits_in a known) attentions
 
+-- none of these attentions waits twice, and each is among some
+abbrev pub AreAmong : List Attention → List Attention → Type 0
+AreAmong known attentions = IsTrue (none_twice attentions) × IsTrue (all_among known attentions)
+
 -- a law: where none waits twice and each is among some, no more wait than these
 abbrev pub WaitNoMoreThanKnown : Type 0
 WaitNoMoreThanKnown = (known attentions : List Attention) → IsTrue (none_twice attentions) → IsTrue (all_among known attentions)
@@ -47,9 +51,21 @@ WaitNoMoreThanKnown = (known attentions : List Attention) → IsTrue (none_twice
 abbrev pub with_attention : Attention → List Attention → List Attention
 with_attention a attentions = if waits_in a attentions then attentions else attentions ++ a ∷ []
 
+-- a law: where none waits twice and each is among some, so it is with one of these raised, and after the first was told
+abbrev pub KnownStayKnown : Type 0
+KnownStayKnown = (known attentions : List Attention) (a : Attention) → IsTrue (waits_in a known) → AreAmong known attentions
+    → AreAmong known (with_attention a attentions) × AreAmong known (drop 1 attentions)
+
 -- after an attention was raised for one initiator
 abbrev pub raised : Waiting → ℕ → Attention → Waiting
 raised waiting i a = with_waiting waiting i (with_attention a (waiting_for waiting i))
+
+-- after an attention was raised for each initiator whose mark is set; the first mark is that of initiator 1
+abbrev pub raised_where : List Bool → Attention → Waiting → Waiting
+raised_where [] a waiting = waiting
+raised_where (told ∷ marks) a [] = []
+raised_where (told ∷ marks) a (attentions ∷ waiting) =
+    (if told then with_attention a attentions else attentions) ∷ raised_where marks a waiting
 
 -- after one initiator was told its first attention
 abbrev pub first_taken : Waiting → ℕ → Waiting

@@ -1,5 +1,5 @@
-ghost use Rattle.std.specs.Prelude.{◌≡◌, ◌-◌, ◌<◌, ◌≤◌, length, map, IsTrue};
-ghost use Rattle.sense_data.specs.Attentions.{waiting_for, with_attention, none_twice, attention, attention_sense, raised, first_of, first_taken, none_waiting, power_on_waiting, WaitNoMoreThanKnown};
+ghost use Rattle.std.specs.Prelude.{◌≡◌, ℕ, ◌+◌, ◌-◌, ◌<◌, ◌≤◌, length, map, IsTrue};
+ghost use Rattle.sense_data.specs.Attentions.{waiting_for, with_attention, none_twice, attention, attention_sense, raised, raised_where, first_of, first_taken, none_waiting, power_on_waiting, WaitNoMoreThanKnown, KnownStayKnown};
 
 use crate::codes::POWER_ON_OCCURRED;
 use crate::queue::{Queue, WAITING_MAX};
@@ -9,8 +9,8 @@ use disk_base::Initiator;
 use std::array;
 use std::marker::Model;
 
-// How many initiators there are.
-const INITIATORS: usize = 8;
+/// How many initiators there are.
+pub const INITIATORS: usize = 8;
 
 /// The attentions that wait for each initiator, first come first. None waits twice for one initiator.
 #[derive(Debug, Drop)]
@@ -53,6 +53,19 @@ impl Attentions {
         self.queues[place_of(i)].add(Attention { asc, ascq });
     }
 
+    /// Adds an attention for each initiator whose mark is set, unless it waits there already; the first mark is that of
+    /// initiator 1. With it at most eight may wait for each of them.
+    pub fn raise_where(&mut self, marks: &[bool; INITIATORS], attention: Attention)
+        requires { (i : ℕ) → length (with_attention attention (waiting_for self.old i)) ≤ WAITING_MAX }
+        ensures { self.new ≡ raised_where marks.now attention self.old }
+    {
+        for place in 0..INITIATORS {
+            if marks[place] {
+                self.raise(initiator_at(place), attention.asc, attention.ascq);
+            }
+        }
+    }
+
     /// The first attention that waits for an initiator.
     pub fn first(&self, i: Initiator) -> Option<Sense>
         ensures { result ≡ first_of self.now i }
@@ -88,6 +101,20 @@ impl Attentions {
 pub fn no_more_wait_than_are_known()
     ensures { WaitNoMoreThanKnown }
 {}
+
+/// A law on lists of attentions: where none waits twice and each is one of some, so it is after one of these is raised,
+/// and after the first is told.
+pub fn known_stay_known()
+    ensures { KnownStayKnown }
+{}
+
+// The initiator whose list is at a place.
+fn initiator_at(place: usize) -> Initiator
+    requires { place < INITIATORS }
+    ensures { result ≡ place + 1 }
+{
+    Initiator::new((place + 1) as u8).unwrap()
+}
 
 // The place of an initiator's list.
 fn place_of(i: Initiator) -> usize

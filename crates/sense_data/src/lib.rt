@@ -13,7 +13,7 @@ mod sense;
 mod tests;
 
 pub use attention::Attention;
-pub use attentions::{Attentions, no_more_wait_than_are_known};
+pub use attentions::{Attentions, INITIATORS, known_stay_known, no_more_wait_than_are_known};
 pub use queue::WAITING_MAX;
-pub use reply::{CHECK_CONDITION, GOOD, Reply, TASK_SET_FULL};
+pub use reply::{CHECK_CONDITION, GOOD, RESERVATION_CONFLICT, Reply, TASK_SET_FULL};
 pub use sense::{SENSE_LENGTH, Sense};

@@ -7,6 +7,8 @@ pub const GOOD: u8 = 0x00;
 
 pub const CHECK_CONDITION: u8 = 0x02;
 
+pub const RESERVATION_CONFLICT: u8 = 0x18;
+
 pub const TASK_SET_FULL: u8 = 0x28;
 
 /// How a command ended: its status, and sense data with CHECK CONDITION.
@@ -18,7 +20,7 @@ pub struct Reply {
 
 impl Reply {
     pub fn good() -> Self
-        ensures status { result.status ≡ GOOD }
+        ensures status { result.status ≡ 0x00 }
         ensures sense { result.sense ≡ None }
     {
         Reply {
@@ -28,7 +30,7 @@ impl Reply {
     }
 
     pub fn check_condition(sense: Sense) -> Self
-        ensures status { result.status ≡ CHECK_CONDITION }
+        ensures status { result.status ≡ 0x02 }
         ensures sense { result.sense ≡ Some sense }
     {
         Reply {
@@ -37,9 +39,20 @@ impl Reply {
         }
     }
 
+    /// A reservation of another initiator keeps the command out.
+    pub fn reservation_conflict() -> Self
+        ensures status { result.status ≡ 0x18 }
+        ensures sense { result.sense ≡ None }
+    {
+        Reply {
+            status: RESERVATION_CONFLICT,
+            sense: None,
+        }
+    }
+
     /// The task set had no room for the command.
     pub fn task_set_full() -> Self
-        ensures status { result.status ≡ TASK_SET_FULL }
+        ensures status { result.status ≡ 0x28 }
         ensures sense { result.sense ≡ None }
     {
         Reply {

@@ -4,7 +4,7 @@ use disk_base::Initiator;
 use std::test::Fail;
 
 // Each code that the drive uses, as sense key, additional sense code and qualifier.
-const CODES: [(Sense, u8, u8, u8); 19] = [
+const CODES: [(Sense, u8, u8, u8); 20] = [
     (NO_ADDITIONAL_SENSE, 0, 0x00, 0x00),
     (RECOVERED_WITH_RETRIES, 1, 0x17, 0x01),
     (RECOVERED_WITH_POSITIVE_OFFSET, 1, 0x17, 0x02),
@@ -23,6 +23,7 @@ const CODES: [(Sense, u8, u8, u8); 19] = [
     (ADDRESS_OUT_OF_RANGE, 5, 0x21, 0x00),
     (INVALID_FIELD_IN_CDB, 5, 0x24, 0x00),
     (INVALID_FIELD_IN_PARAMETER_LIST, 5, 0x26, 0x00),
+    (INVALID_RELEASE_OF_PERSISTENT_RESERVATION, 5, 0x26, 0x04),
     (SAVING_PARAMETERS_NOT_SUPPORTED, 5, 0x39, 0x00),
 ];
 
@@ -53,6 +54,9 @@ fn every_attention_by_bytes(rt: HostRuntime) {
         (POWER_ON_OCCURRED, 0x29, 0x01),
         (RESET_OCCURRED, 0x29, 0x03),
         (MODE_PARAMETERS_CHANGED, 0x2A, 0x01),
+        (RESERVATIONS_PREEMPTED, 0x2A, 0x03),
+        (RESERVATIONS_RELEASED, 0x2A, 0x04),
+        (REGISTRATIONS_PREEMPTED, 0x2A, 0x05),
         (COMMANDS_CLEARED, 0x2F, 0x00),
     ] {
         let bytes = [
@@ -101,6 +105,21 @@ fn attentions_in_order(rt: HostRuntime) -> Result<(), Fail> {
 }
 
 #[test]
+fn attentions_for_marked_initiators(rt: HostRuntime) -> Result<(), Fail> {
+    let third = Initiator::new(3).ok_or("the third")?;
+    let fourth = Initiator::new(4).ok_or("the fourth")?;
+    let mut attentions = Attentions::none();
+    let marks = [false, false, false, true, false, false, false, false];
+    attentions.raise_where(&marks, RESERVATIONS_RELEASED);
+    assert!(rt; attentions.all(third).is_empty());
+    assert_eq!(rt;
+        attentions.first(fourth),
+        Some(RESERVATIONS_RELEASED.sense())
+    );
+    Ok(())
+}
+
+#[test]
 fn replies(rt: HostRuntime) {
     let check = Reply::check_condition(INVALID_FIELD_IN_CDB);
     assert_eq!(rt;
@@ -108,5 +127,7 @@ fn replies(rt: HostRuntime) {
         (0x02, Some(INVALID_FIELD_IN_CDB))
     );
     assert_eq!(rt; (Reply::good().status, Reply::good().sense), (0x00, None));
+    let conflict = Reply::reservation_conflict();
+    assert_eq!(rt; (conflict.status, conflict.sense), (0x18, None));
     assert_eq!(rt; Reply::task_set_full().status, 0x28);
 }
