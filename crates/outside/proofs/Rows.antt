@@ -2,7 +2,7 @@
 use Rattle.std.proofs.Common.{◌≡◌, zero, suc, ◌-◌, ◌^◌, [], ◌∷◌, Some, refl, arith, lit≤, lit<}
 use Rattle.outside.specs.declared.sink.SinkAnswer.TheVariants.{Took, Failed}
 use Rattle.outside.specs.Faults.{Rises}
-use Rattle.outside.specs.Memory.{SinkState, IsDue, IsFullFor, fresh, passed, count_given, count_taken, sink_after}
+use Rattle.outside.specs.Memory.{SinkState, IsDue, IsFull, fresh, passed, count_given, count_taken, sink_after}
 use Rattle.outside.specs.Pieces.{AppendsFront, ConsumesAtMost}
 
 -- a count that went up
@@ -40,13 +40,13 @@ one_taken : count_taken nearly_full 2 ≡ 1
 unfolding nearly_full
 one_taken = refl
 
-not_full : IsFullFor nearly_full (9 ∷ []) → ⊥
+not_full : IsFull nearly_full → ⊥
 unfolding nearly_full
-not_full h = omega (arith, h.1)
+not_full h = omega (arith, h)
 
-full_after_one : IsFullFor (sink_after nearly_full (9 ∷ 9 ∷ []) (Took 1)) (9 ∷ [])
+full_after_one : IsFull (sink_after nearly_full (9 ∷ 9 ∷ []) (Took 1))
 unfolding nearly_full
-full_after_one = (λ e. cc, refl)
+full_after_one = refl
 
 -- a fault leaves the bytes
 kept_at_a_fault : (sink_after nearly_full (9 ∷ []) Failed).held ≡ 7 ∷ 8 ∷ []

@@ -1,5 +1,5 @@
 -- Sources and sinks over memory, as contracts see them.
-use Rattle.std.specs.Prelude.{◌≡◌, ◌≢◌, ℕ, ◌-◌, List, [], ◌++◌, length, take, drop, min, Contains}
+use Rattle.std.specs.Prelude.{◌≡◌, ℕ, ◌-◌, List, ◌++◌, length, take, drop, min, Contains}
 use Rattle.outside.specs.Faults.{counted}
 use Rattle.outside.specs.declared.source.ReadAnswer.{ReadAnswer}
 use Rattle.outside.specs.declared.source.ReadAnswer.TheVariants.{Got, End, Failed}
@@ -65,9 +65,9 @@ source_after s Failed = record s { schedule = faulted s.schedule }
 abbrev pub count_taken : SinkState → ℕ → ℕ
 count_taken s n = min n (min s.most (s.room - length s.held))
 
--- a piece has bytes, and the sink has no room for any
-abbrev pub IsFullFor : SinkState → List ℕ → Type 0
-IsFullFor s piece = (piece ≢ []) × (length s.held ≡ s.room)
+-- a sink has no room for another byte
+abbrev pub IsFull : SinkState → Type 0
+IsFull s = length s.held ≡ s.room
 
 -- a sink after its answer to a piece
 abbrev pub sink_after : SinkState → List ℕ → SinkAnswer → SinkState

@@ -1,14 +1,14 @@
 ghost use Rattle.std.specs.Prelude.{◌≡◌, ◌≢◌, ◌↔◌, ◌⊎◌, ◌<◌, ◌≤◌, Some, [], length, take, IsTrue, IfOk, vec_len, vec_capacity};
 ghost use Rattle.std.specs.Io.KnownBytes.{Consumes};
 ghost use Rattle.outside.specs.Answers.{IfGot, IfTook};
-ghost use Rattle.outside.specs.Memory.{Schedule, SourceState, SinkState, IsDue, IsFullFor, fresh, passed, faulted, count_given, source_after, count_taken, sink_after};
+ghost use Rattle.outside.specs.Memory.{Schedule, SourceState, SinkState, IsDue, IsFull, fresh, passed, faulted, count_given, source_after, count_taken, sink_after};
 
 use crate::{ReadAnswer, Sink, SinkAnswer, Source, SteadySource};
 use disk_base::{Bytes, Calls, NoMemory};
 use std::alloc::Global;
 use std::marker::Model;
 
-/// A source over memory that fails at stated calls.
+/// A source over memory that fails at stated calls, unless the buffer is empty.
 #[derive(Debug, Drop)]
 pub struct MemorySource {
     supply: SteadySource,
@@ -45,13 +45,13 @@ impl Source for MemorySource {
         ensures some { IfGot result (λ n. 0 < length into.old → 0 < n) }
         ensures got { IfGot result (λ n. Consumes (Some self.old.supply.left) (Some self.new.supply.left) (take n into.new)) }
 
-        ensures fails { (result ≡ ReadAnswer.Failed) ↔ IsDue self.old.schedule }
+        ensures fails { (result ≡ ReadAnswer.Failed) ↔ ((into.old ≢ []) × IsDue self.old.schedule) }
         ensures ends { result ≡ ReadAnswer.End → self.old.supply.left ≡ [] }
         ensures goes_on { IfGot result (λ _. self.old.supply.left ≢ []) }
         ensures count { IfGot result (λ n. n ≡ count_given self.old.supply (length into.old)) }
         ensures after { self.new ≡ source_after self.old result }
     {
-        if self.timetable.is_due() {
+        if !into.is_empty() && self.timetable.is_due() {
             self.timetable.fault();
             return ReadAnswer::Failed;
         }
@@ -60,7 +60,7 @@ impl Source for MemorySource {
     }
 }
 
-/// A sink over memory that fails at stated calls, and where it is full.
+/// A sink over memory that fails at stated calls, and where it is full, unless the piece is empty.
 #[derive(Debug, Drop)]
 pub struct MemorySink {
     bytes: Vec<u8>,
@@ -111,13 +111,12 @@ impl Sink for MemorySink {
         ensures fits { IfTook result (λ n. n ≤ length piece.now) }
         ensures some { IfTook result (λ n. 0 < length piece.now → 0 < n) }
 
-        ensures fails { (result ≡ SinkAnswer.Failed) ↔ (IsDue self.old.schedule ⊎ IsFullFor self.old piece.now) }
+        ensures fails { (result ≡ SinkAnswer.Failed) ↔ ((piece.now ≢ []) × (IsDue self.old.schedule ⊎ IsFull self.old)) }
         ensures count { IfTook result (λ n. n ≡ count_taken self.old (length piece.now)) }
         ensures after { self.new ≡ sink_after self.old piece.now result }
     {
         let count = piece.len().min(self.most.min(self.room - self.bytes.len()));
-        let is_full = count == 0 && !piece.is_empty();
-        if is_full || self.timetable.is_due() {
+        if !piece.is_empty() && (count == 0 || self.timetable.is_due()) {
             self.timetable.fault();
             return SinkAnswer::Failed;
         }

@@ -1,6 +1,6 @@
-ghost use Rattle.std.specs.Prelude.{◌≡◌, ◌≤◌};
+ghost use Rattle.std.specs.Prelude.{◌≡◌, ◌≤◌, []};
 ghost use Rattle.std.specs.Io.KnownBytes.{Appends};
-ghost use Rattle.outside.specs.Faults.{Rises};
+ghost use Rattle.outside.specs.Faults.{Rises, counted};
 ghost use Rattle.outside.specs.Pieces.{AppendsFront};
 
 use crate::{Sink, SinkAnswer};
@@ -12,11 +12,14 @@ pub enum Printed {
     Fault,
 }
 
-/// Offers a sink a text, and again what it didn't take, until it has all of it.
+/// Offers a sink a text, and again what it didn't take, until it has all of it. After a fault it isn't offered again.
 pub fn offer<K: Sink>(sink: &mut K, text: &[u8]) -> Printed
     ensures faults_stay { K.faults sink.old ≤ K.faults sink.new }
     ensures all { result ≡ Printed.All → Appends (K.held sink.old) (K.held sink.new) text.now }
     ensures fault { result ≡ Printed.Fault → Rises (K.faults sink.old) (K.faults sink.new) }
+    ensures one_fault { result ≡ Printed.Fault → K.faults sink.new ≡ counted (K.faults sink.old) }
+    ensures no_fault { result ≡ Printed.All → K.faults sink.new ≡ K.faults sink.old }
+    ensures empty { text.now ≡ [] → result ≡ Printed.All }
     ensures front { AppendsFront (K.held sink.old) (K.held sink.new) text.now }
 {
     let mut at = 0;

@@ -24,10 +24,13 @@ impl<R: Read> Source for FromRead<R> {
 
     ghost faults = { λ s. s.faults };
 
-    /// Fails where the reader does, also where it was only interrupted.
+    /// Fails where the reader does, also where it was only interrupted. For an empty buffer the reader isn't asked.
     fn read(&mut self, into: &mut [u8]) -> ReadAnswer {
+        if into.is_empty() {
+            return ReadAnswer::Got(0);
+        }
         match self.inner.read(into) {
-            Ok(0) if !into.is_empty() => ReadAnswer::End,
+            Ok(0) => ReadAnswer::End,
             Ok(count) => ReadAnswer::Got(count),
             Err(_) => {
                 self.faults = self.faults.saturating_add(1);
@@ -58,10 +61,14 @@ impl<W: Write> Sink for ToWrite<W> {
 
     ghost faults = { λ s. s.faults };
 
-    /// Fails where the writer does, also where it was only interrupted, or takes nothing of a piece that has bytes.
+    /// Fails where the writer does, also where it was only interrupted, or takes nothing of a piece that has bytes. Of
+    /// an empty piece the writer isn't told.
     fn write(&mut self, piece: &[u8]) -> SinkAnswer {
+        if piece.is_empty() {
+            return SinkAnswer::Took(0);
+        }
         match self.inner.write(piece) {
-            Ok(count) if count > 0 || piece.is_empty() => SinkAnswer::Took(count),
+            Ok(count) if count > 0 => SinkAnswer::Took(count),
             _ => {
                 self.faults = self.faults.saturating_add(1);
                 SinkAnswer::Failed

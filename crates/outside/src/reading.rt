@@ -1,7 +1,7 @@
-ghost use Rattle.std.specs.Prelude.{◌≡◌, ◌+◌, ◌≤◌, length};
+ghost use Rattle.std.specs.Prelude.{◌≡◌, ◌≢◌, ◌+◌, ◌≤◌, length};
 ghost use Rattle.std.specs.Io.KnownBytes.{Consumes, IsAtEnd};
 ghost use Rattle.outside.specs.Answers.{IfRead};
-ghost use Rattle.outside.specs.Faults.{Rises};
+ghost use Rattle.outside.specs.Faults.{Rises, counted};
 ghost use Rattle.outside.specs.Pieces.{ConsumesAtMost, ConsumesExactly};
 
 use crate::{ReadAnswer, Source};
@@ -23,10 +23,12 @@ pub enum Reading {
 const PIECE: usize = 4096;
 
 /// Reads a source to its end, where at most `most` bytes are left. Of a longer one it takes one byte more, and
-/// no other.
+/// no other. After a read that failed it doesn't read again.
 pub fn read_to_end<S: Source>(alloc: Global, source: &mut S, most: usize) -> Reading
     ensures faults_stay { S.faults source.old ≤ S.faults source.new }
     ensures failed { result ≡ Reading.Failed → Rises (S.faults source.old) (S.faults source.new) }
+    ensures one_fault { result ≡ Reading.Failed → S.faults source.new ≡ counted (S.faults source.old) }
+    ensures no_fault { result ≢ Reading.Failed → S.faults source.new ≡ S.faults source.old }
 
     ensures read { IfRead result (λ bytes. Consumes (S.left source.old) (S.left source.new) bytes) }
     ensures ended { IfRead result (λ _. IsAtEnd (S.left source.new)) }

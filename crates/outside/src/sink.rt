@@ -1,7 +1,7 @@
-ghost use Rattle.std.specs.Prelude.{◌≡◌, ℕ, ◌<◌, ◌≤◌, List, Option, length, take};
+ghost use Rattle.std.specs.Prelude.{◌≡◌, ◌≢◌, ℕ, ◌<◌, ◌≤◌, List, [], Option, length, take};
 ghost use Rattle.std.specs.Io.KnownBytes.{Appends, Keeps};
 ghost use Rattle.outside.specs.Answers.{IfTook};
-ghost use Rattle.outside.specs.Faults.{Rises};
+ghost use Rattle.outside.specs.Faults.{Rises, counted};
 
 /// What a write answers.
 #[derive(Clone, Copy, Debug, PartialEq, Eq)]
@@ -19,10 +19,13 @@ pub trait Sink {
     /// How often a write has failed.
     ghost faults: { Self → ℕ };
 
-    /// Offers a piece. To take nothing of a piece that has bytes is a fault.
+    /// Offers a piece. To take nothing of a piece that has bytes is a fault; an empty piece is none.
     fn write(&mut self, piece: &[u8]) -> SinkAnswer
         ensures faults_stay { faults self.old ≤ faults self.new }
         ensures failed { result ≡ SinkAnswer.Failed → Rises (faults self.old) (faults self.new) }
+        ensures one_fault { result ≡ SinkAnswer.Failed → faults self.new ≡ counted (faults self.old) }
+        ensures no_fault { result ≢ SinkAnswer.Failed → faults self.new ≡ faults self.old }
+        ensures empty { piece.now ≡ [] → result ≡ SinkAnswer.Took 0 }
 
         ensures fits { IfTook result (λ n. n ≤ length piece.now) }
         ensures some { IfTook result (λ n. 0 < length piece.now → 0 < n) }

@@ -1,7 +1,7 @@
-ghost use Rattle.std.specs.Prelude.{◌≡◌, ℕ, ◌<◌, ◌≤◌, List, Option, length, take};
+ghost use Rattle.std.specs.Prelude.{◌≡◌, ◌≢◌, ℕ, ◌<◌, ◌≤◌, List, [], Option, length, take};
 ghost use Rattle.std.specs.Io.KnownBytes.{Consumes, IsAtEnd, Keeps};
 ghost use Rattle.outside.specs.Answers.{IfGot};
-ghost use Rattle.outside.specs.Faults.{Rises};
+ghost use Rattle.outside.specs.Faults.{Rises, counted};
 
 /// What a read answers.
 #[derive(Clone, Copy, Debug, PartialEq, Eq)]
@@ -20,10 +20,13 @@ pub trait Source {
     /// How often a read has failed.
     ghost faults: { Self → ℕ };
 
-    /// Reads into the front of a buffer; what stands behind the bytes got is free.
+    /// Reads into the front of a buffer; what stands behind the bytes got is free. An empty buffer is no fault.
     fn read(&mut self, into: &mut [u8]) -> ReadAnswer
         ensures faults_stay { faults self.old ≤ faults self.new }
         ensures failed { result ≡ ReadAnswer.Failed → Rises (faults self.old) (faults self.new) }
+        ensures one_fault { result ≡ ReadAnswer.Failed → faults self.new ≡ counted (faults self.old) }
+        ensures no_fault { result ≢ ReadAnswer.Failed → faults self.new ≡ faults self.old }
+        ensures empty { into.old ≡ [] → result ≢ ReadAnswer.Failed }
 
         ensures fits { IfGot result (λ n. n ≤ length into.old) }
         ensures some { IfGot result (λ n. 0 < length into.old → 0 < n) }

@@ -1,5 +1,5 @@
 -- what the sink took is the next front of the text
-use Rattle.std.proofs.Common.{arith, length-drop, length-take}
+use Rattle.std.proofs.Common.{◌∙◌, arith, length-drop, length-take}
 use Rattle.outside.proofs.Known.{Appends-front}
 use Rattle.outside.proofs.offering.offer.Goals as goal
 
@@ -11,5 +11,5 @@ loop-at-preserved g c =
     record {
       within = grind (arith, length-drop, length-take);
       grown = Appends-front _ _ _ text c.loop-at.at c.in-Took.count kept.grown told.took;
-      faults_stay = omega arith;
+      no_fault = told.no_fault (λ e. cc) ∙ kept.no_fault;
     }
