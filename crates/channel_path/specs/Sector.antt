@@ -24,6 +24,12 @@ pub record IsEncoded (payload : Payload) (samples : List ℤ) : Type 0 where
   pub coded : IsCode (bytes_of 148 words) channel
   pub clean : samples ≡ clean_samples (level_word channel)
 
+-- the samples are the clean ones of the levels of the code of bytes
+pub record AreCoded (bytes : List ℕ) (samples : List ℤ) : Type 0 where
+  pub channel : List Bool
+  pub coded : IsCode bytes channel
+  pub clean : samples ≡ clean_samples (level_word channel)
+
 -- the encoded bytes and their flags are what samples are heard as: the channel bits of the detected word, read tolerantly
 pub record AreHeard (samples : List ℤ) (bytes : List ℕ) (flags : List Bool) : Type 0 where
   pub word : List ℤ

@@ -4,15 +4,12 @@ ghost use Rattle.disk_base.specs.Payload.{IsPayload};
 ghost use Rattle.rs_sector.specs.Sector.{word_of, words_of};
 ghost use Rattle.channel_path.specs.Sector.{AreHeard, AreInReach, IsInReach, IsOf, ReadsAs, flags_of};
 
-use crate::writing::SAMPLES;
+use crate::writing::{ENCODED, SAMPLES, WORDS};
 use disk_base::{How, NoMemory, Payload, Psn};
-use prml_viterbi::{Work, chan_of, detect};
+use prml_viterbi::{Work, chan_of, channel_of_clean, detect_by_search};
 use rs_sector::{join, lift, nearest, nearest_erased};
 use std::alloc::Global;
 use std::marker::Model;
-
-/// Encoded bytes of a sector.
-const ENCODED: usize = 592;
 
 /// Wrong bytes of a word that the two plain ways of decoding correct.
 const LIGHT_RADIUS: u8 = 4;
@@ -80,7 +77,12 @@ fn hear(path: &mut Path, samples: &[i8; SAMPLES]) -> Heard
 {
     let mut bytes = [0; ENCODED];
     let mut flags = [false; ENCODED];
-    detect(samples, &mut path.work, &mut path.levels);
+    let mut words = [0; WORDS];
+    if channel_of_clean(samples, &mut path.levels, &mut words) {
+        rll_code::decode_words(&words, &mut bytes, &mut flags);
+        return Heard { bytes, flags };
+    }
+    detect_by_search(samples, &mut path.work, &mut path.levels);
     chan_of(&path.levels, &mut path.channel);
     rll_code::decode(&path.channel, &mut bytes, &mut flags);
     Heard { bytes, flags }

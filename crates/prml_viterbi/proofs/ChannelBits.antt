@@ -38,12 +38,12 @@ AreLevels-levels_after high [] k d h = absurd (omega arith)
 AreLevels-levels_after high (bit ∷ bits) zero d h = level_for-is_level (flip bit high)
 AreLevels-levels_after high (bit ∷ bits) (suc k) d h = AreLevels-levels_after (flip bit high) bits k d (omega arith)
 
-length-levels_after : (high : Bool) (bits : List Bool) → length (levels_after high bits) ≡ length bits
+pub length-levels_after : (high : Bool) (bits : List Bool) → length (levels_after high bits) ≡ length bits
 length-levels_after high [] = refl
 length-levels_after high (bit ∷ bits) = ap suc (length-levels_after (flip bit high) bits)
 
 -- a level is the one before it, flipped by its bit
-get_or-levels_after : (high : Bool) (bits : List Bool) (k : ℕ) → k < length bits
+pub get_or-levels_after : (high : Bool) (bits : List Bool) (k : ℕ) → k < length bits
     → get_or (levels_after high bits) k (pos 1) ≡ level_for (flip (get_or bits k false) (is_high (get_or (level_for high ∷ levels_after high bits) k (pos 1))))
 get_or-levels_after high [] k h = absurd (omega arith)
 get_or-levels_after high (bit ∷ bits) zero h = ap (λ x. level_for (flip bit x)) (sym (is_high-level_for high))

@@ -3,8 +3,9 @@ use Rattle.std.proofs.Common.{◌≡◌, ◌⊎◌, ℕ, zero, suc, ◌<◌, ◌
 use Rattle.std.proofs.lemmas.Int.{ints}
 use Rattle.std.proofs.lemmas.Bool.{cases_lt, cases_order}
 use Rattle.std.proofs.lemmas.List.{ext_get_or}
-use Rattle.prml_viterbi.specs.Levels.{level_at, clean_at, IsAllowed}
-use Rattle.prml_viterbi.specs.Detected.{square, distance_below, distance, IsBetter, IsDetected, ComesBefore}
+use Rattle.std.proofs.lemmas.List.FromFn.{length-map-range_with_len, get_or-map-range_with_len}
+use Rattle.prml_viterbi.specs.Levels.{level_at, clean_at, clean_samples, IsAllowed}
+use Rattle.prml_viterbi.specs.Detected.{square, distance_below, distance, IsBetter, IsDetected, ComesBefore, CleanSamplesTell}
 
 square-difference_self : (x : ℤ) → square (x -ℤ x) ≡ 0
 square-difference_self x = let none : x -ℤ x ≡ pos 0 = omega (arith, ints) in rw none refl
@@ -79,3 +80,10 @@ IsDetected-unique samples word other a b = joined (a.least other b.allowed b.lon
     joined (inr (inl x)) (inr (inr y)) = absurd (omega (arith, y.0))
     joined (inr (inr x)) (inr (inl y)) = absurd (omega (arith, x.0))
     joined (inr (inr x)) (inr (inr y)) = absurd (not_both_before word other x.1 y.1)
+
+-- an allowed word is detected in its clean samples
+pub clean_samples_tell : CleanSamplesTell
+clean_samples_tell word allowed =
+    let long = length-map-range_with_len (clean_at word) 0 (length word) in
+    IsDetected-from_clean (clean_samples word) word allowed (sym long)
+    (λ k h. get_or-map-range_with_len (clean_at word) 0 (length word) k k (pos 0) (omega (arith, long)) (omega arith))

@@ -12,3 +12,7 @@ pub mod ChannelBits
 pub mod Examples
 pub mod CleanPlaces
 pub mod Rebuilt
+pub mod LevelNumbers
+pub mod SampleRows
+pub mod Places
+pub mod Spaced

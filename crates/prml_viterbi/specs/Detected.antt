@@ -1,6 +1,6 @@
 -- The word that a detector is to find in samples.
-use Rattle.std.specs.Prelude.{◌≡◌, ◌⊎◌, ℕ, zero, suc, ◌+◌, ◌*◌, ◌<◌, List, length, ℤ, pos, negsuc, ◌-ℤ◌, unsigned_abs, slice_index_or}
-use Rattle.prml_viterbi.specs.Levels.{IsAllowed, clean_at, clean_samples}
+use Rattle.std.specs.Prelude.{◌≡◌, ◌⊎◌, ℕ, zero, suc, ◌+◌, ◌*◌, ◌<◌, Bool, List, length, ℤ, pos, negsuc, ◌-ℤ◌, unsigned_abs, slice_index_or}
+use Rattle.prml_viterbi.specs.Levels.{IsAllowed, channel_bits, clean_at, clean_samples}
 
 abbrev pub square : ℤ → ℕ
 square x = unsigned_abs x * unsigned_abs x
@@ -41,3 +41,7 @@ IsUnique = (samples word other : List ℤ) → IsDetected samples word → IsDet
 -- an allowed word is the detected word of its clean samples
 abbrev pub CleanSamplesTell : Type 0
 CleanSamplesTell = (word : List ℤ) → IsAllowed word → IsDetected (clean_samples word) word
+
+-- these are the channel bits of the word that is detected in the samples
+abbrev pub HaveDetectedBits : List ℤ → List Bool → Type 0
+HaveDetectedBits samples bits = (word : List ℤ) × IsDetected samples word × (channel_bits word ≡ bits)

@@ -3,3 +3,4 @@ pub mod Detected
 pub mod Trellis
 pub mod Sums
 pub mod Clean
+pub mod LevelBits

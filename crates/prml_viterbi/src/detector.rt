@@ -54,6 +54,16 @@ pub fn detect(samples: &[i8], work: &mut Work, out: &mut [i8])
     if rebuild(samples, out) && are_clean(samples, out) {
         return;
     }
+    detect_by_search(samples, work, out);
+}
+
+/// Writes the word that is detected in the samples as `detect` does, without a look whether they are clean.
+pub fn detect_by_search(samples: &[i8], work: &mut Work, out: &mut [i8])
+    requires long { length out.old ≡ length samples.now }
+    requires room { length samples.now ≤ work.old }
+    ensures detected { IsDetected samples.now out.new }
+    ensures room { work.new ≡ work.old }
+{
     let survivors = work.survivors.as_mut_slice();
     let end = search(samples, survivors);
     trace(survivors, end, out);

@@ -5,16 +5,22 @@
 
 mod detector;
 mod levels;
+mod sample_rows;
 mod shortcut;
 mod trellis;
+mod word_samples;
+mod word_shortcut;
 
 pub use detector::{
-    Work, clean_samples_give_their_word_back, detect, samples_have_one_detected_word,
+    Work, clean_samples_give_their_word_back, detect, detect_by_search,
+    samples_have_one_detected_word,
 };
 pub use levels::{
     chan_of, levels_and_channel_bits_invert_each_other, levels_of, samples_of,
     spaced_channel_bits_give_an_allowed_word,
 };
+pub use word_samples::samples_of_words;
+pub use word_shortcut::channel_of_clean;
 
 #[cfg(test)]
 mod tests;

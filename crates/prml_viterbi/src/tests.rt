@@ -132,3 +132,59 @@ fn distance(word: u32, samples: &[i8]) -> u32
     }
     sum
 }
+
+#[test]
+fn words_of_channel_bits(rt: HostRuntime) {
+    let mut chan = [false; 9478];
+    let mut words = [0u64; 149];
+    for (k, bit) in chan.iter_mut().enumerate() {
+        *bit = k % 7 == 3 || k % 11 == 5;
+    }
+    for (k, bit) in chan.iter().enumerate() {
+        words[k / 64] |= u64::from(*bit) << (k % 64);
+    }
+    for count in [0, 1, 63, 64, 65, 9478] {
+        samples_agree(&rt, &chan, &words, count);
+    }
+}
+
+/// Asserts that the first channel bits give the same samples one by one and in words.
+fn samples_agree(rt: &impl Abort, chan: &[bool; 9478], words: &[u64; 149], count: usize) {
+    let count = count.min(9478);
+    let mut levels = [0i8; 9478];
+    let mut expected = [0i8; 9478];
+    let mut samples = [1i8; 9478];
+    let levels = &mut levels[..count];
+    let expected = &mut expected[..count];
+    let samples = &mut samples[..count];
+    levels_of(&chan[..count], levels);
+    samples_of(levels, expected);
+    samples_of_words(words, samples);
+    for (k, sample) in samples.iter().enumerate() {
+        assert_eq!(rt; *sample, expected[k], "at {k}");
+    }
+}
+
+#[test]
+fn clean_samples_give_their_channel_bits(rt: HostRuntime) {
+    let mut words = [0u64; 149];
+    for k in 0..9478usize {
+        words[k / 64] |= u64::from(k % 7 == 3) << (k % 64);
+    }
+    let mut samples = [0i8; 9478];
+    samples_of_words(&words, &mut samples);
+    let mut room = [0i8; 9478];
+    let mut found = [0u64; 149];
+    assert!(rt; channel_of_clean(&samples, &mut room, &mut found));
+    assert_eq!(rt; found.as_slice(), words.as_slice());
+    for i in 0..156usize {
+        let k = 61 * i;
+        let kept = samples[k];
+        samples[k] = 31;
+        assert!(rt;
+            !channel_of_clean(&samples, &mut room, &mut found),
+            "at {k}"
+        );
+        samples[k] = kept;
+    }
+}

@@ -1,5 +1,8 @@
 #!/usr/bin/env python3
-"""Writes src/tables.rt from the rows of the code: python3 docs/make_tables.py > src/tables.rt, then rt fmt."""
+"""Writes the tables from the rows of the code: python3 docs/make_tables.py > src/tables.rt, and
+python3 docs/make_tables.py words > src/word_tables.rt, then rt fmt."""
+
+import sys
 
 ROWS = {
     "10": "0100",
@@ -11,6 +14,7 @@ ROWS = {
     "0011": "00001000",
 }
 WORD_BITS = 24
+TAIL = "011"
 
 
 def beginnings(sides, step):
@@ -49,6 +53,12 @@ def read(pending, channel):
     return bits, flags, pending
 
 
+def placed(pending, bits):
+    """The channel bits that bits complete as a number, the first the lowest, above six places less two for each pending bit."""
+    channel, _ = advance(pending, bits)
+    return int("0" + channel[::-1], 2) << 6 - 2 * len(pending)
+
+
 def literal(name, kind, doc, numbers):
     print(f"/// {doc}")
     print(f"pub(crate) const {name}: [{kind}; {len(numbers)}] = [")
@@ -58,7 +68,20 @@ def literal(name, kind, doc, numbers):
     print()
 
 
-def main():
+def word_tables():
+    print("//! Tables for words of channel bits, written by docs/make_tables.py.")
+    print()
+    states = beginnings(ROWS, 1)
+    entries = [placed(pending, f"{byte:08b}") for pending in states for byte in range(256)]
+    doc = "The channel bits that a byte completes, the first the lowest, above six places less two for each bit that was pending."
+    literal("PLACED", "u32", doc, entries)
+    tails = [placed(pending, TAIL) for pending in states]
+    literal("TAILS", "u32", "The channel bits that the tail completes, in each state, placed likewise.", tails)
+    reversed_bits = [int(f"{byte:08b}"[::-1], 2) for byte in range(256)]
+    literal("REVERSED", "u8", "Each byte with its bits the other way round.", reversed_bits)
+
+
+def bit_tables():
     print("//! Tables by state and eight bits, written by docs/make_tables.py.")
     print()
 
@@ -90,4 +113,7 @@ def main():
     literal("SPREAD", "bool", "The eight bits of each byte, one byte after another.", spread)
 
 
-main()
+if sys.argv[1:] == ["words"]:
+    word_tables()
+else:
+    bit_tables()

@@ -23,7 +23,7 @@ pub record Encoded (bytes : List ℕ) (out : List Bool) (state i : ℕ) : Type 0
   pub placed : 2 * waiting state ≤ 16 * i
   pub known : IsState 6 state
 
-waits_at_most_three : (state : ℕ) → IsState 6 state → length (bits_waiting state) ≤ 3
+pub waits_at_most_three : (state : ℕ) → IsState 6 state → length (bits_waiting state) ≤ 3
 waits_at_most_three state known = below_six (λ n. length (get_or left_beginnings n []) ≤ 3) (omega arith) (omega arith) (omega arith) (omega arith) (omega arith) (omega arith) (state / 256) known.0
 
 -- the word's beginning stands behind what was written before

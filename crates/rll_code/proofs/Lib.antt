@@ -16,3 +16,6 @@ pub mod Splitting
 pub mod SpreadTable
 pub mod TableTests
 pub mod Writing
+pub mod WordCoding
+pub mod WordTable
+pub mod WordReading

@@ -3,3 +3,4 @@ pub mod Code
 pub mod Laws
 pub mod Reading
 pub mod Steps
+pub mod Words

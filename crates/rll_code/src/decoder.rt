@@ -42,15 +42,15 @@ pub fn decode(chan: &[bool], out: &mut [u8], flags: &mut [bool])
 
 /// The bits that eight channel bits settle, which of them are flagged, and the state after them.
 #[derive(Drop)]
-struct Settled {
-    bits: u8,
-    flags: u8,
-    state: u16,
+pub(crate) struct Settled {
+    pub(crate) bits: u8,
+    pub(crate) flags: u8,
+    pub(crate) state: u16,
 }
 
 /// A state is where its entries begin in the tables.
 #[inline(always)]
-fn settle(state: u16, channel: u8) -> Settled
+pub(crate) fn settle(state: u16, channel: u8) -> Settled
     requires { IsState 10 state }
     ensures { Settles state channel result.bits result.flags result.state }
 {
@@ -81,7 +81,7 @@ fn packed(channel: &[bool]) -> u8
 
 /// The three places that are kept, and behind them the places of two times eight channel bits.
 #[inline(always)]
-fn joined(kept: u32, first: u8, second: u8) -> u32
+pub(crate) fn joined(kept: u32, first: u8, second: u8) -> u32
     requires { kept < 8 }
     ensures { result ≡ kept * 256 + first * 16 + second }
 {

@@ -8,6 +8,11 @@ pub mod laws;
 mod tables;
 #[cfg(test)]
 mod tests;
+mod word_decoder;
+mod word_encoder;
+mod word_tables;
 
 pub use decoder::decode;
 pub use encoder::encode;
+pub use word_decoder::decode_words;
+pub use word_encoder::encode_words;

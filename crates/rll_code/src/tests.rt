@@ -66,5 +66,21 @@ fn lengths(rt: HostRuntime) -> Result<(), Fail> {
     decode(&chan, &mut out, &mut flags);
     assert_eq!(rt; out.as_slice(), bytes.as_slice());
     assert_eq!(rt; flags.as_slice(), [false; 592].as_slice());
+
+    let mut words = [0; 149];
+    encode_words(&bytes, &mut words);
+    for (k, bit) in chan.iter().enumerate() {
+        assert_eq!(rt; words[k / 64] >> (k % 64) & 1 == 1, *bit, "{k}");
+    }
+    assert!(rt; words[148] < 64);
+    // A bit turned at a word's edge reads alike both ways.
+    words[70] ^= 1 << 63;
+    chan[64 * 71 - 1] ^= true;
+    decode_words(&words, &mut out, &mut flags);
+    let mut expected = [0; 592];
+    let mut marked = [false; 592];
+    decode(&chan, &mut expected, &mut marked);
+    assert_eq!(rt; out.as_slice(), expected.as_slice());
+    assert_eq!(rt; flags.as_slice(), marked.as_slice());
     Ok(())
 }
