@@ -12,11 +12,13 @@ use Rattle.block_machine.specs.Blocks.{Blocks, blocks_after}
 use Rattle.block_machine.specs.declared.array.BlockState.{BlockState}
 use Rattle.block_machine.proofs.Projection.{blocks_of_turn}
 use Rattle.history_replay.specs.declared.kept.Kept.{Kept}
+use Rattle.history_replay.specs.declared.monitor.Monitor.{Monitor}
 use Rattle.history_replay.specs.Kept.{Stands, Takes}
+use Rattle.history_replay.specs.Monitor.{Follows, Judges}
 use Rattle.history_replay.specs.declared.fault.ReplayFault.{ReplayFault}
 use Rattle.history_replay.specs.declared.fault.ReplayFault.TheVariants.{Step}
 use Rattle.history_replay.specs.Array.{blocks_of}
-use Rattle.history_replay.specs.History.{TakesBoth, TellsUnlawful}
+use Rattle.history_replay.specs.History.{TellsUnlawful}
 use Rattle.history_replay.proofs.Along.{ComesTo, FirstComesTo, first_begin, first_more, first_refused, first_end, item_more, item_refused, items_end, none_fails}
 use Rattle.history_replay.proofs.Both.{is_none-map}
 use Rattle.history_replay.proofs.Taking.{StandsAt}
@@ -24,45 +26,38 @@ use Rattle.history_replay.proofs.Taking.{StandsAt}
 abbrev pub TurnsComeTo : ℕ → State → List Turn → State → List Turn → ℕ → Type 0
 TurnsComeTo capacity = FirstComesTo (turn_after capacity) (turn_lawful capacity)
 
--- what is kept, and the blocks, stand for a state at which the turns that are left are left
-abbrev pub BothStandAt : ℕ → Kept → List BlockState → State → List Turn → List Turn → ℕ → Type 0
-BothStandAt capacity kept blocks s turns rest k =
-    (g : State) × Stands capacity kept g × (blocks_of blocks ≡ g.blocks) × TurnsComeTo capacity s turns g rest k
+-- the monitor has followed a history to a state at which the turns that are left are left
+abbrev pub FollowsAt : ℕ → Monitor → State → List Turn → List Turn → ℕ → Type 0
+FollowsAt capacity monitor s turns rest k = (g : State) × Follows capacity monitor g × TurnsComeTo capacity s turns g rest k
 
 -- before the first
-pub history_begins : (capacity : ℕ) (kept : Kept) (blocks : List BlockState) (s : State) (turns : List Turn) → Stands capacity kept s
-    → blocks_of blocks ≡ s.blocks → BothStandAt capacity kept blocks s turns turns 0
-history_begins capacity kept blocks s turns st same = (s, st, same, first_begin (turn_after capacity) (turn_lawful capacity) s turns)
+pub history_begins : (capacity : ℕ) (monitor : Monitor) (s : State) (turns : List Turn) → Follows capacity monitor s
+    → FollowsAt capacity monitor s turns turns 0
+history_begins capacity monitor s turns at = (s, at, first_begin (turn_after capacity) (turn_lawful capacity) s turns)
 
--- what is kept stands for a state at the capacity that it has
-pub history_stands : (n capacity : ℕ) (kept : Kept) (blocks : List BlockState) (s : State) (turns rest : List Turn) (k : ℕ) → n ≡ capacity
-    → BothStandAt capacity kept blocks s turns rest k → (g : State) × Stands n kept g
-history_stands n capacity kept blocks s turns rest k same at = (at.0, let Q : ℕ → Type 0 = λ m. Stands m kept at.0 in subst Q (sym same) at.1)
+-- the monitor follows it still
+pub history_followed : (capacity : ℕ) (monitor : Monitor) (s : State) (turns rest : List Turn) (k : ℕ)
+    → FollowsAt capacity monitor s turns rest k → (capacity : ℕ) × ((s : State) × Follows capacity monitor s)
+history_followed capacity monitor s turns rest k at = (capacity, (at.0, at.1))
 
 -- one more turn
-pub history_more : (capacity : ℕ) (now new : Kept) (before blocks : List BlockState) (s : State) (turns : List Turn) (k : ℕ) (t : Turn) (may : Bool)
-    → now.known.capacity ≡ capacity → k < length turns → t ≡ get_or turns k t → may ≡ true
-    → TakesBoth now.known.capacity (λ s. turn_lawful now.known.capacity s t) (λ s. turn_after now.known.capacity s t) now new before blocks may
-    → BothStandAt capacity now before s turns (drop k turns) k → BothStandAt capacity new blocks s turns (drop (k + 1) turns) (k + 1)
-history_more capacity now new before blocks s turns k t may same less is came takes at =
-    let P : ℕ → Type 0 = λ n. TakesBoth n (λ s. turn_lawful n s t) (λ s. turn_after n s t) now new before blocks may in
-    let taken = (subst P same takes) at.0 at.1 at.2 in
-    let after = taken.1 came in (
+pub history_more : (capacity : ℕ) (now new : Monitor) (s : State) (turns : List Turn) (k : ℕ) (t : Turn) (may : Bool)
+    → k < length turns → t ≡ get_or turns k t → may ≡ true → Judges t now new may
+    → FollowsAt capacity now s turns (drop k turns) k → FollowsAt capacity new s turns (drop (k + 1) turns) (k + 1)
+history_more capacity now new s turns k t may less is came judges at =
+    let taken = judges capacity at.0 at.1 in (
       turn_after capacity at.0 t,
-      after.0,
-      after.1,
-      first_more (turn_after capacity) (turn_lawful capacity) s at.0 turns k t less is (sym taken.0 ∙ came) at.3,
+      taken.1 came,
+      first_more (turn_after capacity) (turn_lawful capacity) s at.0 turns k t less is (sym taken.0 ∙ came) at.2,
     )
 
 -- one that may not come
-pub history_refused : (capacity : ℕ) (now new : Kept) (before blocks : List BlockState) (s : State) (turns : List Turn) (k : ℕ) (t : Turn) (may : Bool)
-    → now.known.capacity ≡ capacity → k < length turns → t ≡ get_or turns k t → may ≡ false
-    → TakesBoth now.known.capacity (λ s. turn_lawful now.known.capacity s t) (λ s. turn_after now.known.capacity s t) now new before blocks may
-    → BothStandAt capacity now before s turns (drop k turns) k → first_unlawful capacity s turns ≡ Some (k + 1)
-history_refused capacity now new before blocks s turns k t may same less is refused takes at =
-    let P : ℕ → Type 0 = λ n. TakesBoth n (λ s. turn_lawful n s t) (λ s. turn_after n s t) now new before blocks may in
-    let taken = (subst P same takes) at.0 at.1 at.2 in
-    first_refused (turn_after capacity) (turn_lawful capacity) s at.0 turns k t less is (sym taken.0 ∙ refused) at.3
+pub history_refused : (capacity : ℕ) (now new : Monitor) (s : State) (turns : List Turn) (k : ℕ) (t : Turn) (may : Bool)
+    → k < length turns → t ≡ get_or turns k t → may ≡ false → Judges t now new may
+    → FollowsAt capacity now s turns (drop k turns) k → first_unlawful capacity s turns ≡ Some (k + 1)
+history_refused capacity now new s turns k t may less is refused judges at =
+    let taken = judges capacity at.0 at.1 in
+    first_refused (turn_after capacity) (turn_lawful capacity) s at.0 turns k t less is (sym taken.0 ∙ refused) at.2
 
 -- nothing fails of a legal history
 pub legal_where_none : (capacity : ℕ) (s : State) (turns : List Turn) (first : Option ℕ) → first_unlawful capacity s turns ≡ first
@@ -71,13 +66,16 @@ legal_where_none capacity s turns first e = sym (none_fails (turn_after capacity
     ∙ sym (is_none-map (λ n. n + 1) (first_failing (turn_after capacity) (turn_lawful capacity) s turns)) ∙ ap is_none e
 
 -- behind the last
-pub history_ends : (capacity : ℕ) (now : Kept) (blocks : List BlockState) (s : State) (turns : List Turn) (k : ℕ) → length turns ≤ k
-    → BothStandAt capacity now blocks s turns (drop k turns) k
-    → (legal_from capacity s turns ≡ true) × (blocks_of blocks ≡ (turns_after capacity s turns).blocks)
-history_ends capacity now blocks s turns k all at =
-    let end = first_end (turn_after capacity) (turn_lawful capacity) s at.0 turns k all at.3 in (
+pub history_ends : (capacity : ℕ) (now : Monitor) (blocks : List BlockState) (s : State) (turns : List Turn) (k : ℕ) → length turns ≤ k
+    → ((capacity : ℕ) (s : State) → Follows capacity now s → length blocks ≡ capacity)
+    → ((capacity : ℕ) (s : State) → Follows capacity now s → blocks_of blocks ≡ s.blocks)
+    → FollowsAt capacity now s turns (drop k turns) k
+    → (length blocks ≡ capacity) × (blocks_of blocks ≡ (turns_after capacity s turns).blocks) × (legal_from capacity s turns ≡ true)
+history_ends capacity now blocks s turns k all long are at =
+    let end = first_end (turn_after capacity) (turn_lawful capacity) s at.0 turns k all at.2 in (
+      long capacity at.0 at.1,
+      are capacity at.0 at.1 ∙ ap (λ (g : State). g.blocks) (sym end.1),
       legal_where_none capacity s turns None (ap (λ (o : Option ℕ). option_map (λ n. n + 1) o) end.0),
-      at.2 ∙ ap (λ (g : State). g.blocks) (sym end.1),
     )
 
 -- nor is one legal of which a turn may not come

@@ -4,6 +4,7 @@ pub mod Deeds
 pub mod History
 pub mod Kept
 pub mod Known
+pub mod Monitor
 pub mod Replay
 pub mod Steps
 pub mod Warning

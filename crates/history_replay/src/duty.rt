@@ -1,7 +1,7 @@
 //! A command that is in.
-ghost use Rattle.std.specs.Prelude.{◌≡◌, ◌<◌, ◌≤◌, ℕ, Some, IfOk, IsTrue, slice_index};
+ghost use Rattle.std.specs.Prelude.{◌≡◌, ◌≤◌, ℕ, Some, IfOk, IsTrue, slice_index};
 ghost use Rattle.std.specs.Option.{option_map};
-ghost use Rattle.cdb_reader.specs.Read.{has_data, in_range, read_of};
+ghost use Rattle.cdb_reader.specs.Read.{in_range, read_of};
 ghost use Rattle.cdb_reader.specs.Request.{outcome_of, request_of};
 ghost use Rattle.block_machine.specs.Plans.{first_plan};
 ghost use Rattle.history_replay.specs.Deeds.{marked_blocks};
@@ -10,7 +10,8 @@ ghost use Rattle.history_replay.specs.Known.{HasPageControl, NamesFewBlocks, sta
 
 use crate::Known;
 use crate::deed::{is_dirty_at, left_after};
-use crate::start::first_plan;
+use crate::steps::first_plan;
+use crate::steps::request::{byte, read};
 use crate::tasks::{are_asked, ends_as_told};
 use block_machine::{Entry, Label};
 use cdb_reader::{Command, Plan};
@@ -159,29 +160,5 @@ impl Duty {
             Entry::Mode { settings } => are_asked(alloc, known, asks, &self.sent, settings),
             _ => Ok(true),
         }
-    }
-}
-
-/// What a command block with its data asks for, or why it is refused, on a unit of so many blocks.
-pub fn read(cdb: &Cdb, sent: &DataOut, capacity: u64) -> Result<Command, Sense>
-    ensures outcome { outcome_of result ≡ read_of cdb.now sent.now capacity }
-    ensures range { IfOk result (λ command. IsTrue (in_range (request_of command) capacity)) }
-    ensures data_length { IfOk result (λ command. IsTrue (has_data (request_of command) sent.now)) }
-    ensures control { IfOk result HasPageControl }
-    ensures few { capacity ≤ 4096 → IfOk result NamesFewBlocks }
-{
-    // The page control field of MODE SENSE stands in byte 2.
-    let _control = byte(cdb, 2);
-    cdb_reader::read(cdb, sent, capacity)
-}
-
-// A byte of a command block; 0 behind its end.
-fn byte(cdb: &Cdb, place: usize) -> u8
-    ensures value { result ≡ slice_index cdb.now place }
-    ensures fits { slice_index cdb.now place < 256 }
-{
-    match cdb.bytes().get(place) {
-        Some(byte) => *byte,
-        None => 0,
     }
 }

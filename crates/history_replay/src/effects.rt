@@ -1,34 +1,18 @@
-//! What an entry makes of mode values, of the map's state and of the scan; and which turns a start may stand in.
+//! What an entry makes of the map's state and of the scan; and which turns a start may stand in.
 ghost use Rattle.std.specs.Prelude.{◌≡◌, ◌+◌, ◌*◌, ◌/◌, ◌%◌, ◌<◌, ◌≤◌, min, IsTrue, OnOk};
 ghost use Rattle.std.specs.List.{list_any};
 ghost use Rattle.block_machine.specs.Entries.{outcome_lawful};
 ghost use Rattle.block_machine.specs.Scan.{scan_after};
-ghost use Rattle.block_machine.specs.Steps.{corrupt_after, is_corrupt, settings_after};
+ghost use Rattle.block_machine.specs.Steps.{corrupt_after, is_corrupt};
 ghost use Rattle.block_machine.specs.Turns.{is_end, is_start, starts_alone};
 ghost use Rattle.history_replay.specs.Kept.{ShowSame};
 ghost use Rattle.history_replay.specs.Known.{may_log, scan_of};
 
 use crate::Scanning;
 use block_machine::{Entry, Recovered};
-use disk_base::{Function, NoMemory};
-use mode_pages::Settings;
+use disk_base::NoMemory;
 use scan_log::ScanLog;
 use std::alloc::Global;
-
-/// The mode values after an entry.
-pub fn settings_after(settings: &Settings, entry: &Entry) -> Settings
-    ensures { result ≡ settings_after settings.now entry.now }
-{
-    match entry {
-        Entry::Mode { settings: made } => *made,
-        Entry::Asked { what, .. } => match what {
-            Function::Reset => Settings::default_values(),
-            Function::Abort(_) | Function::AbortSet | Function::Clear => *settings,
-        },
-        Entry::PoweredOn { .. } => Settings::default_values(),
-        _ => *settings,
-    }
-}
 
 /// Whether the map is one that couldn't be read, after an entry.
 pub fn corrupt_after(corrupt: bool, entry: &Entry) -> bool

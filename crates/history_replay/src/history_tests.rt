@@ -245,3 +245,17 @@ fn a_cut_leaves_old_newer_or_lost(rt: HostRuntime) -> Result<(), Fail> {
     assert!(rt; refused == Some(ReplayFault::Step { turn: 12 }));
     Ok(())
 }
+
+#[test]
+fn a_turn_is_judged_by_itself(rt: HostRuntime) -> Result<(), Fail> {
+    let mut turns = Vec::new(rt.alloc());
+    told(rt.alloc(), &mut turns, 1)?;
+    let first = turns.as_slice().first().ok_or("a turn")?;
+    let mut monitor = Monitor::new(rt.alloc(), 2)?;
+    assert!(rt; monitor.is_idle());
+    assert!(rt; monitor.take(rt.alloc(), first)?);
+    assert!(rt; !monitor.is_idle());
+    let blocks = monitor.into_blocks();
+    assert_eq!(rt; blocks.as_slice().len(), 2);
+    Ok(())
+}

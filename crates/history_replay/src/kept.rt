@@ -3,22 +3,24 @@ ghost use Rattle.std.specs.Prelude.{◌≡◌, ◌==◌, ◌<◌, ◌≤◌, ◌
 ghost use Rattle.std.specs.Ordering.{nat_cmp};
 ghost use Rattle.std.specs.BTreeMap.{get};
 ghost use Rattle.block_machine.specs.Blocks.{dirty_after};
-ghost use Rattle.block_machine.specs.State.{no_duty};
+ghost use Rattle.block_machine.specs.State.{no_duty, state_at_start};
 ghost use Rattle.block_machine.specs.Scan.{scan_after};
 ghost use Rattle.block_machine.specs.Steps.{corrupt_after, set_after, settings_after, waiting_after};
 ghost use Rattle.history_replay.specs.Arrival.{ComesLast, with_commands};
-ghost use Rattle.history_replay.specs.Kept.{ShowSame, is_over};
+ghost use Rattle.history_replay.specs.Kept.{ShowSame, Stands, is_over};
 ghost use Rattle.history_replay.specs.Known.{may_log, scan_of};
 ghost use Rattle.history_replay.specs.Warning.{KnownWait, NamesOneThatIsIn, waiting_state};
 
-use crate::Known;
 use crate::address::settle_dirty;
 use crate::duty::Duty;
-use crate::effects::{corrupt_after, settings_after, watch_scan};
-use crate::set::settle_set;
-use crate::told::settle_attentions;
+use crate::effects::{corrupt_after, watch_scan};
+use crate::steps::{settings_after, settle_attentions, settle_set};
+use crate::{Known, Scanning};
 use block_machine::{Entry, Label};
 use disk_base::NoMemory;
+use mode_pages::Settings;
+use scan_log::ScanLog;
+use sense_data::Attentions;
 use sense_data::codes::INVALID_OPERATION_CODE;
 use std::alloc::Global;
 use std::collections::BTreeMap;
@@ -35,6 +37,33 @@ pub struct Kept {
     pub known: Known,
     /// The addresses of the dirty blocks; the one that is dirty for the longest time comes first.
     pub dirty: Vec<u64>,
+}
+
+/// What is kept before the first turn.
+pub fn kept_at_start(alloc: Global, waiting: Attentions, capacity: u64) -> Result<Kept, NoMemory>
+    requires some { 1 ≤ capacity }
+    requires few { capacity ≤ 4096 }
+    requires known { KnownWait waiting }
+    ensures unit { IfOk result (λ kept. kept.known.capacity ≡ capacity) }
+    ensures stands { IfOk result (λ kept. Stands capacity kept (state_at_start waiting)) }
+{
+    Ok(Kept {
+        arrived: 0,
+        set: TaskSet::new(),
+        duties: BTreeMap::new(alloc),
+        known: Known {
+            capacity,
+            settings: Settings::default_values(),
+            waiting,
+            corrupt: false,
+            scan: Scanning {
+                minutes: 0,
+                scanned: 0,
+                log: ScanLog::new(alloc)?,
+            },
+        },
+        dirty: Vec::new(alloc),
+    })
 }
 
 /// All that an entry leaves, but for what commands owe: those that are in no more are let go.

@@ -6,9 +6,9 @@ ghost use Rattle.block_machine.specs.Turns.{owes_nothing_now};
 ghost use Rattle.history_replay.specs.Known.{NamesFewBlocks, duty_of, state_of, with_set};
 
 use crate::Known;
-use crate::answer::{made, same_settings};
 use crate::form::tells_recovery;
 use crate::reply::is_recovered;
+use crate::steps::answer::{same_settings, settings_made};
 use cdb_reader::{Command, Plan};
 use disk_base::{DataOut, NoMemory};
 use mode_pages::Settings;
@@ -92,7 +92,7 @@ pub fn are_asked(
 {
     match asks {
         Ok(Command::ModeSelect { ten, length }) => {
-            let made = made(alloc, &known.settings, known.capacity, *ten, *length, sent)?;
+            let made = settings_made(alloc, &known.settings, known.capacity, *ten, *length, sent)?;
             Ok(makes(&made, settings))
         }
         _ => Ok(false),

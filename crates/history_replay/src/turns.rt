@@ -14,7 +14,7 @@ use crate::duty::Duty;
 use crate::effects::starts_alone;
 use crate::entry::take_entry;
 use crate::kept::{Kept, keep, settle, take};
-use crate::set::settle_set;
+use crate::steps::settle_set;
 use crate::tasks::owes_nothing_now;
 use block_machine::{Entry, Label, Turn};
 use disk_base::{Cdb, DataOut, Initiator, NoMemory};

@@ -8,8 +8,8 @@ ghost use Rattle.block_machine.specs.Steps.{is_request_sense, waiting_after, wai
 ghost use Rattle.history_replay.specs.Known.{duty_of};
 ghost use Rattle.history_replay.specs.Warning.{KnownWait, NamesOneThatIsIn, waiting_state};
 
-use crate::start::attention_met;
-use crate::warning::{warn_of_clear, warn_of_mode_change, warn_of_reset};
+use crate::steps::start::attention_met;
+use crate::steps::warning::{warn_of_clear, warn_of_mode_change, warn_of_reset};
 use block_machine::{Entry, Label};
 use cdb_reader::Command;
 use disk_base::{DataOut, Function, Initiator};

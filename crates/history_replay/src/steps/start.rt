@@ -9,9 +9,9 @@ ghost use Rattle.block_machine.specs.Settings.{settings_made};
 ghost use Rattle.history_replay.specs.Known.{HasPageControl, duty_of, moving_blocks, state_of, syncing_from};
 
 use crate::Known;
-use crate::answer::{
-    changing, inquiry, log_sense, made, mode_sense, read_capacity_10, read_capacity_16,
-    read_defect_data, refusing, report_luns, request_sense,
+use crate::steps::answer::{
+    changing, inquiry, log_sense, mode_sense, read_capacity_10, read_capacity_16, read_defect_data,
+    refusing, report_luns, request_sense, settings_made,
 };
 use cdb_reader::{Command, Moving, Plan, Reading, Syncing, Writing};
 use disk_base::{DataOut, Initiator, Items, Lba, NoMemory};
@@ -179,7 +179,7 @@ fn mode_select(
     ensures { IfOk result (λ plan. plan ≡ changing known.now.settings (settings_made known.now.capacity known.now.settings ten length sent.now)) }
 {
     let settings = &known.settings;
-    let made = made(alloc, settings, known.capacity, ten, length, sent)?;
+    let made = settings_made(alloc, settings, known.capacity, ten, length, sent)?;
     Ok(changing(settings, &made))
 }
 

@@ -101,7 +101,7 @@ pub fn mode_sense(
 }
 
 /// The mode values that a MODE SELECT of this parameter list length makes of others, or its refusal.
-pub fn made(
+pub fn settings_made(
     alloc: Global,
     settings: &Settings,
     capacity: u64,

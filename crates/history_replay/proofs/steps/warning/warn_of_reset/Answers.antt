@@ -1,7 +1,7 @@
 use Rattle.std.proofs.Common.{◌∙◌, ◌<◌, ◌≤◌, ap, ℕ, Bool, true, rules}
 use Rattle.sense_data.specs.Attentions.{attention}
 use Rattle.history_replay.proofs.Raising.{raised_more, told}
-use Rattle.history_replay.proofs.warning.warn_of_reset.Goals as goal
+use Rattle.history_replay.proofs.steps.warning.warn_of_reset.Goals as goal
 
 pub loop-number-preserved : goal.loop-number-preserved
 loop-number-preserved c =

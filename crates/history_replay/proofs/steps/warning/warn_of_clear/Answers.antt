@@ -2,7 +2,7 @@ use Rattle.std.proofs.Common.{◌∙◌, ◌<◌, ◌≤◌, ap, ℕ, Bool, cond
 use Rattle.sense_data.specs.Attentions.{attention, raised}
 use Rattle.history_replay.specs.Warning.{is_cleared}
 use Rattle.history_replay.proofs.Raising.{raised_more, told}
-use Rattle.history_replay.proofs.warning.warn_of_clear.Goals as goal
+use Rattle.history_replay.proofs.steps.warning.warn_of_clear.Goals as goal
 
 pub loop-number-preserved : goal.loop-number-preserved
 loop-number-preserved c =

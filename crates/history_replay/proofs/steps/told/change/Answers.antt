@@ -3,7 +3,7 @@ use Rattle.std.specs.Prelude.{Option}
 use Rattle.std.specs.Option.{option_map_or}
 use Rattle.task_set.specs.declared.member.Member.{Member}
 use Rattle.block_machine.specs.Attentions.{after_mode_change}
-use Rattle.history_replay.proofs.told.change.Goals as goal
+use Rattle.history_replay.proofs.steps.told.change.Goals as goal
 
 pub returns-in-Some : goal.returns-in-Some
 returns-in-Some c =

@@ -7,7 +7,7 @@ use Rattle.block_machine.specs.Attentions.{after_clear}
 use Rattle.block_machine.specs.State.{no_duty}
 use Rattle.block_machine.specs.Steps.{waiting_after}
 use Rattle.history_replay.specs.Warning.{waiting_state}
-use Rattle.history_replay.proofs.told.ask.Goals as goal
+use Rattle.history_replay.proofs.steps.told.ask.Goals as goal
 
 pub returns-in-Clear : goal.returns-in-Clear
 returns-in-Clear c =

@@ -3,7 +3,7 @@ use Rattle.cdb_reader.specs.Request.{outcome_of}
 use Rattle.history_replay.specs.Known.{duty_of}
 use Rattle.history_replay.specs.Warning.{waiting_state}
 use Rattle.history_replay.proofs.KnownWaiting.{known_when}
-use Rattle.history_replay.proofs.told.settle_attentions.Goals as goal
+use Rattle.history_replay.proofs.steps.told.settle_attentions.Goals as goal
 
 pub returns-clause-known : goal.returns-clause-known
 returns-clause-known c =

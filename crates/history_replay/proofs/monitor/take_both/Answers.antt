@@ -1,5 +1,5 @@
 use Rattle.history_replay.proofs.TurnsTaken.{both_taken}
-use Rattle.history_replay.proofs.history.take_both.Goals as goal
+use Rattle.history_replay.proofs.monitor.take_both.Goals as goal
 
 pub returns-clause-takes : goal.returns-clause-takes
 returns-clause-takes c = λ s st same.

@@ -1,5 +1,5 @@
 use Rattle.history_replay.proofs.Asking.{control_read, few_read}
-use Rattle.history_replay.proofs.duty.read.Goals as goal
+use Rattle.history_replay.proofs.steps.request.read.Goals as goal
 
 pub returns-clause-control : goal.returns-clause-control
 returns-clause-control c =
