@@ -15,3 +15,4 @@ pub mod RunLemmas
 pub mod ReportLaw
 pub mod ReadRanges
 pub mod EntryRanges
+pub mod Ending

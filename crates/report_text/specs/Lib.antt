@@ -1,4 +1,5 @@
 pub mod Operations
+pub mod Ending
 pub mod Entries
 pub mod Turns
 pub mod Summary

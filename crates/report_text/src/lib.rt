@@ -16,6 +16,7 @@ mod read;
 mod run;
 mod shown;
 mod strays;
+mod summary;
 mod summary_reading;
 mod tally;
 #[cfg(test)]
@@ -29,3 +30,4 @@ pub use laws::reports_read_again;
 pub use print::print_run;
 pub use read::read_run;
 pub use run::{Form, Run};
+pub use summary::{Summary, read_summary};

@@ -1,5 +1,5 @@
 //! Reading a summary: its numbers are read, it is printed again, and the line is a summary where the print is the line.
-ghost use Rattle.std.specs.Prelude.{◌≡◌, ◌<◌, ◌^◌, IsTrue, IfSome};
+ghost use Rattle.std.specs.Prelude.{◌≡◌, ◌<◌, ◌^◌, IsTrue, IfSome, Some};
 ghost use Rattle.text_words.specs.Line.{texts_of};
 ghost use Rattle.report_text.specs.declared.counts.Counts.{Counts as CountsValue};
 ghost use Rattle.report_text.specs.Summary.{summary_text};
@@ -19,27 +19,38 @@ pub fn is_summary(line: &[u8]) -> bool
     ensures yes { IsTrue result → (counts : CountsValue) × AreCounts counts × (line.now ≡ summary_text counts) }
     ensures no { (counts : CountsValue) → AreCounts counts → line.now ≡ summary_text counts → IsTrue result }
 {
-    match line {
-        [b't', ..] => is_print_of_counts(line),
-        _ => false,
+    match counts_of_line(line) {
+        Some(_) => true,
+        None => false,
     }
 }
 
-fn is_print_of_counts(line: &[u8]) -> bool
-    ensures yes { IsTrue result → (counts : CountsValue) × AreCounts counts × (line.now ≡ summary_text counts) }
-    ensures no { (counts : CountsValue) → AreCounts counts → line.now ≡ summary_text counts → IsTrue result }
+/// The numbers of a line, without its end, that is a summary.
+pub fn counts_of_line(line: &[u8]) -> Option<Counts>
+    ensures some { IfSome result (λ counts. AreCounts counts × (line.now ≡ summary_text counts)) }
+    ensures found { (counts : CountsValue) → AreCounts counts → line.now ≡ summary_text counts → result ≡ Some counts }
+{
+    match line {
+        [b't', ..] => printed_counts(line),
+        _ => None,
+    }
+}
+
+fn printed_counts(line: &[u8]) -> Option<Counts>
+    ensures some { IfSome result (λ counts. AreCounts counts × (line.now ≡ summary_text counts)) }
+    ensures found { (counts : CountsValue) → AreCounts counts → line.now ≡ summary_text counts → result ≡ Some counts }
 {
     let words: ArrayVec<&[u8], SUMMARY_WORDS> = match read_words(line) {
         Some(words) => words,
-        None => return false,
+        None => return None,
     };
     match counts_from(words.as_slice()) {
         Some(counts) => {
             let mut out = Compare::new(line);
             put_counts(&mut out, &counts);
-            out.is_all()
+            if out.is_all() { Some(counts) } else { None }
         }
-        None => false,
+        None => None,
     }
 }
 

@@ -114,6 +114,36 @@ fn refusals(rt: HostRuntime) {
 }
 
 #[test]
+fn summaries_are_read(rt: HostRuntime) -> Result<(), Fail> {
+    let summary = read_summary(EVERY.as_bytes()).ok_or("no summary")?;
+    let written = Summary {
+        turns: 28,
+        commands: 5,
+        good: 1,
+        check: 1,
+        full: 1,
+        aborted: 1,
+        cut: 1,
+        strays: 0,
+    };
+    assert_eq!(rt; summary, written);
+    let turns = read(rt.alloc(), EVERY).ok().ok_or("no turns")?;
+    assert!(rt; summary.sums_up(turns.as_slice()));
+    let turns = read(rt.alloc(), READ).ok().ok_or("no turns")?;
+    assert!(rt; !summary.sums_up(turns.as_slice()));
+    // What stands before the last line isn't looked at; a line that isn't ended is no last line.
+    assert!(rt;
+        read_summary(
+            b"no turn\nturns 0 commands 0 good 0 check 0 full 0 aborted 0 cut 0 strays 7\n"
+        ).is_some()
+    );
+    for (text, _) in REFUSED {
+        assert!(rt; read_summary(text.as_bytes()).is_none(), "at {text:?}");
+    }
+    Ok(())
+}
+
+#[test]
 fn sinks_of_each_room(rt: HostRuntime) -> Result<(), Fail> {
     let turns = read(rt.alloc(), READ).ok().ok_or("no turns")?;
     let run = run_of(rt.alloc(), turns, Ops::new(rt.alloc()))?;
