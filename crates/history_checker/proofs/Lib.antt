@@ -1,0 +1,9 @@
+pub mod AllCome
+pub mod AllEnded
+pub mod Ahead
+pub mod Courses
+mod Examples
+pub mod GoodLaws
+pub mod Keeping
+pub mod Ranges
+pub mod Verdicts
