@@ -15,20 +15,22 @@ use Rattle.command_engine.specs.Course.{Course}
 use Rattle.block_machine.specs.Blocks.{Blocks}
 use Rattle.block_machine.specs.State.{owed_by}
 use Rattle.drive_core.specs.declared.accepted.Accepted.{Accepted}
-use Rattle.drive_core.specs.declared.answer.TurnAnswer.TheVariants as answer
-use Rattle.drive_core.specs.declared.event.Holder.TheVariants as holder
-use Rattle.drive_core.specs.declared.answer.Pick.TheVariants.{Work}
+use Rattle.drive_scene.specs.declared.answer.TurnAnswer.TheVariants as answer
+use Rattle.drive_scene.specs.declared.event.Holder.TheVariants as holder
+use Rattle.drive_scene.specs.declared.answer.Pick.TheVariants as pick
 use Rattle.drive_core.specs.declared.server.Server.{Server}
-use Rattle.drive_core.specs.Scene.{Scene}
-use Rattle.drive_core.specs.Evidence.{lba}
-use Rattle.drive_core.specs.Holds.{held_by_plan, held_block, holds, holder_besides, needed_by_plan, needed_block, IsApart}
+use Rattle.block_machine.specs.declared.turn.Label.TheVariants as label
+use Rattle.drive_scene.specs.Scene.{Scene}
+use Rattle.drive_scene.specs.Evidence.{lba}
+use Rattle.drive_scene.specs.Holds.{held_by_plan, held_block, holds, command_besides, needed_by_plan, needed_block, IsApart}
 use Rattle.drive_core.specs.Accepting.{accepted_of}
-use Rattle.drive_core.specs.Commands.{View, view, IsAtBlock, IsStaged, IsUnderWay}
+use Rattle.drive_scene.specs.View.{View, view}
+use Rattle.drive_core.specs.Commands.{IsAtBlock, IsStaged, IsUnderWay}
 use Rattle.drive_core.specs.Fits.{Fits}
-use Rattle.drive_core.specs.Able.{held_by_other, work_refused, is_able}
-use Rattle.drive_core.specs.Progress.{SomebodyIsAble}
+use Rattle.drive_scene.specs.Able.{held_by_other, work_refused, is_able, nothing_waiting}
+use Rattle.drive_scene.specs.Progress.{SomebodyIsAble}
 use Rattle.drive_core.proofs.AtBlock.{at_block}
-use Rattle.drive_core.proofs.Walking.{member-number}
+use Rattle.drive_scene.proofs.Walking.{member-number, able-is}
 
 -- a block that a plan holds is the one that it needs
 held_by_read : (blocks : Blocks) (window : List Op) (r : reading.Reading) (b : ℕ) → r.at < r.end → held_by_plan window (Reading r) ≡ Some b
@@ -123,8 +125,8 @@ unheld s c m started none =
     cond-true m.started (option_and_then (held_by_other s c) (needed_block s c)) (option_map answer.Dormant (first_forbidding s.hist.set m.task)) started ∙ none
 
 -- the holder of a block waits for nobody
-holder_free : (s : Scene) (q b : ℕ) (o : Option ℕ) → IsApart s → held_block s q ≡ Some b → holder_besides s q b ≡ o
-    → option_map (λ (other : ℕ). answer.Held (lba b) (holder.Command other)) o ≡ None
+holder_free : (s : Scene) (q b : ℕ) (o : Option ℕ) → IsApart s → held_block s q ≡ Some b → command_besides s (label.Work q) b ≡ o
+    → option_map (λ other. answer.Held (lba b) other) (option_map holder.Command o) ≡ None
 holder_free s q b None apart held is = refl
 holder_free s q b (Some x) apart held is =
     let found : Found s q b x = found_in s q b x s.hist.set is in
@@ -138,17 +140,17 @@ free_holder s d q b fits held =
       m = holds_it.m;
       is_in = holds_it.is_in;
       free = unheld s q holds_it.m holds_it.started
-          (ap (option_and_then (held_by_other s q)) holds_it.needs ∙ holder_free s q b (holder_besides s q b) fits.apart held refl);
+          (ap (option_and_then (held_by_other s q)) holds_it.needs ∙ holder_free s q b (command_besides s (label.Work q) b) fits.apart held refl);
     }
 
 by_holder : (s : Scene) (d : Server) (c b : ℕ) (m : Member) (o : Option ℕ) → Fits s d → member_of s.hist.set c ≡ Some m → m.started ≡ true
-    → needed_block s c ≡ Some b → holder_besides s c b ≡ o → IsFree s
+    → needed_block s c ≡ Some b → command_besides s (label.Work c) b ≡ o → IsFree s
 by_holder s d c b m None fits is_in started needs none = record {
   c = c;
   m = m;
   is_in = is_in;
   free = unheld s c m started (ap (option_and_then (held_by_other s c)) needs
-      ∙ ap (option_map (λ (other : ℕ). answer.Held (lba b) (holder.Command other))) none);
+      ∙ ap (λ (o : Option ℕ). option_map (λ other. answer.Held (lba b) other) (option_map holder.Command o)) none);
 }
 by_holder s d c b m (Some q) fits is_in started needs is = free_holder s d q b fits (found_in s c b q s.hist.set is).held
 
@@ -160,7 +162,7 @@ by_need s d c m None fits is_in started needs = record {
   is_in = is_in;
   free = unheld s c m started (ap (option_and_then (held_by_other s c)) needs);
 }
-by_need s d c m (Some b) fits is_in started needs = by_holder s d c b m (holder_besides s c b) fits is_in started needs refl
+by_need s d c m (Some b) fits is_in started needs = by_holder s d c b m (command_besides s (label.Work c) b) fits is_in started needs refl
 
 by_start : (s : Scene) (d : Server) (c : ℕ) (m : Member) (t : Bool) → Fits s d → member_of s.hist.set c ≡ Some m → m.started ≡ t
     → cond t None (first_forbidding s.hist.set m.task) ≡ None → IsFree s
@@ -196,4 +198,4 @@ somebody_is_able s d fits by_age law some =
     let passes : is_able s one.m ≡ true =
     ap (λ (n : ℕ). is_none (work_refused s n one.m)) (member-number s.hist.set one.c one.m one.is_in) ∙ ap is_none one.free in
     let left : 0 < length (filter (is_able s) s.hist.set) = some_left (is_able s) s.hist.set one.c one.m one.is_in passes in
-    omega (arith, left, length-map (filter (is_able s) s.hist.set) (λ (m : Member). Work m.task.c))
+    omega (arith, left, ap length (able-is s nothing_waiting), length-map (filter (is_able s) s.hist.set) (λ (m : Member). pick.Work m.task.c))

@@ -22,26 +22,28 @@ use Rattle.history_replay.specs.Arrival.{with_commands}
 use Rattle.history_replay.proofs.Absent.{absent_left}
 use Rattle.drive_core.specs.declared.accepted.Accepted.{Accepted}
 use Rattle.drive_core.specs.declared.arriving.Arriving.{Arriving}
-use Rattle.drive_core.specs.declared.event.Arrival.TheVariants.{Function}
-use Rattle.drive_core.specs.declared.event.Event.{Event}
-use Rattle.drive_core.specs.declared.event.Event.TheVariants as event
+use Rattle.drive_scene.specs.declared.event.Arrival.TheVariants.{Function}
+use Rattle.drive_scene.specs.declared.event.Event.{Event}
+use Rattle.drive_scene.specs.declared.event.Event.TheVariants as event
 use Rattle.drive_core.specs.declared.server.Server.{Server}
-use Rattle.drive_core.specs.declared.answer.Ended as told_end
-use Rattle.drive_core.specs.Scene.{Scene, capacity, scene_after}
-use Rattle.drive_core.specs.Evidence.{IsEndShown}
-use Rattle.drive_core.specs.Holds.{held_by_plan, held_block}
+use Rattle.drive_scene.specs.declared.answer.Ended as told_end
+use Rattle.drive_scene.specs.Scene.{Scene, capacity, scene_after, beat}
+use Rattle.drive_scene.specs.Evidence.{IsEndShown}
+use Rattle.drive_scene.specs.Holds.{held_by_plan, held_block}
 use Rattle.drive_core.specs.Accepting.{accepted_of}
 use Rattle.drive_core.specs.Arriving.{entry_of}
-use Rattle.drive_core.specs.Commands.{View, view, IsStaged, IsUnderWay}
-use Rattle.drive_core.specs.Ending.{ended_by}
+use Rattle.drive_scene.specs.View.{View, view}
+use Rattle.drive_core.specs.Commands.{IsStaged, IsUnderWay}
+use Rattle.drive_scene.specs.Ending.{ended_by}
 use Rattle.drive_core.specs.Fits.{Fits, IsCached, KnowsHistory}
-use Rattle.drive_core.specs.Moves.{Moves, beat}
+use Rattle.drive_core.specs.Moves.{Moves}
 use Rattle.drive_core.specs.Served.{is_served, is_served_cdb}
 use Rattle.drive_core.specs.Serving.{entries_at_most}
-use Rattle.drive_core.proofs.Tables.{put_at-own, put_at-other}
-use Rattle.drive_core.proofs.Keyed.{find-push_own, find-push_other}
-use Rattle.drive_core.proofs.Elsewhere.{IsAlike, held-alike, staged-alike, all_staged}
-use Rattle.drive_core.proofs.Apart.{held_out, apart_none}
+use Rattle.drive_scene.proofs.Tables.{put_at-own, put_at-other}
+use Rattle.drive_scene.proofs.Keyed.{find-push_own, find-push_other}
+use Rattle.drive_scene.proofs.Elsewhere.{IsAlike, held-alike}
+use Rattle.drive_core.proofs.Elsewhere.{staged-alike, all_staged}
+use Rattle.drive_scene.proofs.Apart.{held_out, apart_none}
 use Rattle.drive_core.proofs.Parts.{cached_got, quiet_got}
 use Rattle.drive_core.proofs.Fitting.{known-quiet}
 use Rattle.drive_core.proofs.Unmoved.{still_stands, has_same, none_added, good_arrival}
@@ -115,6 +117,7 @@ module _ (s : Scene) (d e : Server) (x : Arriving) (c : ℕ) (fits : Fits s d) (
         });
       } in
       let alike : (q : ℕ) → q ≢ c → IsAlike s t q = λ q other. record {
+        size = refl;
         map = refl;
         member = ap (λ (ms : List Member). member_of ms q) new_set ∙ find-push_other (λ (m : Member). m.task.c) c q s.hist.set member refl other;
         duty = put_at-other c q _ s.hist.duties other;
@@ -133,11 +136,12 @@ module _ (s : Scene) (d e : Server) (x : Arriving) (c : ℕ) (fits : Fits s d) (
       let moves : M (entry_of c x ∷ []) = record {
         ops = [];
         added = none_added s d e fits store_is;
-        good = good_arrival s d e fits store_is x.initiator (entry_of c x ∷ []) (numbered_and_answered [] (ap (λ (b : Bool). is_answered b c []) room)) refl (tt, tt) refl
+        good = good_arrival s d e fits store_is x.initiator (entry_of c x ∷ []) (numbered_and_answered [] (ap (λ (b : Bool). is_answered b c []) room)) refl (tt, tt) (λ b. refl) refl refl
             windows refl;
         fits = record {
+          size = fits.size;
           store = has_same s d e fits store_is t refl refl;
-          cached = subst (λ (y : Contained). IsCached t y.cache) (sym store_is) (cached_got s t d.store.cache (quiet_got s t (entry_of c x ∷ []) refl refl refl refl refl refl) fits.cached);
+          cached = subst (λ (y : Contained). IsCached t y.cache) (sym store_is) (cached_got s t d.store.cache (quiet_got s t (entry_of c x ∷ []) refl refl refl refl refl refl refl) fits.cached);
           known = subst (λ (k : Known). KnowsHistory t k) (sym known_is) (known-quiet s t d.known refl refl refl refl refl fits.known);
           tasks = record {
             set = set_is ∙ (λ i. set_after (fits.known.capacity i) (with_commands 0 (fits.tasks.set i)) (entry_of c x));
@@ -172,6 +176,7 @@ module _ (s : Scene) (d e : Server) (x : Arriving) (c : ℕ) (fits : Fits s d) (
       ∙ ap (option_and_then (λ (m : Member). (h.duties c).owes)) absent in
       let gone : member_of t.hist.set c ≡ None = ap (λ (ms : List Member). member_of ms c) new_set ∙ absent in
       let alike : (q : ℕ) → q ≢ c → IsAlike s t q = λ q other. record {
+        size = refl;
         map = refl;
         member = ap (λ (ms : List Member). member_of ms q) new_set;
         duty = put_at-other c q _ h.duties other ∙ put_at-other c q _ s.hist.duties other;
@@ -187,11 +192,12 @@ module _ (s : Scene) (d e : Server) (x : Arriving) (c : ℕ) (fits : Fits s d) (
         good = good_arrival s d e fits store_is x.initiator (entry_of c x ∷ Ended c task_set_full ∷ [])
             (numbered_and_answered (Ended c task_set_full ∷ [])
             (ap (λ (b : Bool). is_answered b c (Ended c task_set_full ∷ [])) full ∙ and_both (eqb c c) _ (eq-eqb c c refl) refl)) refl
-            (tt, (subst (λ o. IsEndShown s (beat (Arrive x.initiator) (entry_of c x ∷ Ended c task_set_full ∷ []) []) c o task_set_full) (sym owes) tt, tt)) refl windows refl;
+            (tt, (subst (λ o. IsEndShown s (beat (Arrive x.initiator) (entry_of c x ∷ Ended c task_set_full ∷ []) []) c o task_set_full) (sym owes) tt, tt)) (λ b. refl) refl refl windows refl;
         fits = record {
+          size = fits.size;
           store = has_same s d e fits store_is t refl refl;
           cached = subst (λ (y : Contained). IsCached t y.cache) (sym store_is)
-              (cached_got s t d.store.cache (quiet_got s t (entry_of c x ∷ Ended c task_set_full ∷ []) refl refl refl refl refl refl) fits.cached);
+              (cached_got s t d.store.cache (quiet_got s t (entry_of c x ∷ Ended c task_set_full ∷ []) refl refl refl refl refl refl refl) fits.cached);
           known = subst (λ (k : Known). KnowsHistory t k) (sym known_is) (known-quiet s t d.known refl refl refl refl refl fits.known);
           tasks = record {
             set = set_is ∙ ((λ i. set_after (fits.known.capacity i) (with_commands 0 (fits.tasks.set i)) (entry_of c x)) ∙ (kept ∙ sym new_set));

@@ -24,20 +24,22 @@ use Rattle.history_replay.specs.Known.{scan_of}
 use Rattle.history_replay.specs.Warning.{KnownWait, waiting_state}
 use Rattle.drive_core.specs.declared.accepted.Accepted.{Accepted}
 use Rattle.drive_core.specs.declared.server.Server.{Server}
-use Rattle.drive_core.specs.Scene.{Scene, capacity, scene_after, windows_with}
-use Rattle.drive_core.specs.Evidence.{lba}
-use Rattle.drive_core.specs.Holds.{held_block, IsApart}
+use Rattle.drive_scene.specs.Scene.{Scene, capacity, scene_after, windows_with, beat}
+use Rattle.drive_scene.specs.Evidence.{lba}
+use Rattle.drive_scene.specs.Holds.{held_block, IsApart}
 use Rattle.drive_core.specs.Accepting.{accepted_of}
-use Rattle.drive_core.specs.Commands.{view, IsStaged}
-use Rattle.drive_core.specs.GoodTurn.{IsStood}
+use Rattle.drive_scene.specs.View.{view}
+use Rattle.drive_core.specs.Commands.{IsStaged}
+use Rattle.drive_scene.specs.GoodTurn.{IsStood}
 use Rattle.drive_core.specs.Fits.{Fits, IsCached}
-use Rattle.drive_core.specs.Moves.{Moves, beat}
-use Rattle.drive_core.proofs.Keyed.{find-kept}
-use Rattle.drive_core.proofs.Elsewhere.{IsAlike, held-alike, staged-alike}
-use Rattle.drive_core.proofs.Apart.{held_out}
+use Rattle.drive_core.specs.Moves.{Moves}
+use Rattle.drive_scene.proofs.Keyed.{find-kept}
+use Rattle.drive_scene.proofs.Elsewhere.{IsAlike, held-alike}
+use Rattle.drive_core.proofs.Elsewhere.{staged-alike}
+use Rattle.drive_scene.proofs.Apart.{held_out}
 use Rattle.drive_core.proofs.Parts.{cached_got, quiet_got}
 use Rattle.drive_core.proofs.Unmoved.{good_arrival, still_stands, has_same, none_added}
-use Rattle.drive_core.proofs.Leaving.{leave_in_turn, left_or_same, state_left, windows_left, settings_left, recovered_left, all_aborted, blocks_allow, shown_left, on_none, none_told}
+use Rattle.drive_scene.proofs.Leaving.{leave_in_turn, left_or_same, state_left, windows_left, settings_left, recovered_left, all_aborted, blocks_allow, shown_left, on_none, none_told, on_no_block, in_order}
 
 -- the commands that a function of an initiator names
 abbrev pub is_named_by : ℕ → Function → Member → Bool
@@ -115,6 +117,7 @@ module _ (s : Scene) (d e : Server) (i : ℕ) (what : Function) (gone : List ℕ
 
   alike : (q : ℕ) → member_of t.hist.set q ≡ member_of s.hist.set q → IsAlike s t q
   alike q same = record {
+    size = refl;
     map = refl;
     member = same;
     duty = ap (λ (x : State). x.duties q) reached;
@@ -167,9 +170,10 @@ module _ (s : Scene) (d e : Server) (i : ℕ) (what : Function) (gone : List ℕ
 
   after_it : Fits t e
   after_it = record {
+    size = fits.size;
     store = has_same s d e fits asked.store t refl refl;
     cached = subst (λ (y : Contained). IsCached t y.cache) (sym asked.store)
-        (cached_got s t d.store.cache (quiet_got s t entries refl refl refl refl (ap (λ (x : State). x.dirty) reached) blocks_are) fits.cached);
+        (cached_got s t d.store.cache (quiet_got s t entries refl refl refl refl refl (ap (λ (x : State). x.dirty) reached) blocks_are) fits.cached);
     known = record {
       capacity = asked.capacity ∙ fits.known.capacity;
       settings = asked.settings ∙ (ap (λ (x : Settings). settings_after x (Asked i what)) fits.known.settings ∙ sym (ap (λ (x : State). x.settings) reached));
@@ -201,7 +205,8 @@ module _ (s : Scene) (d e : Server) (i : ℕ) (what : Function) (gone : List ℕ
     added = none_added s d e fits asked.store;
     good = good_arrival s d e fits asked.store i entries
         (and_both (eqb i i) (are_aborted (numbers (filter (is_named (named_by i what)) s.hist.set)) (map Aborted gone)) (eq-eqb i i refl) ends_named)
-        (blocks_allow (capacity s) s.hist.blocks gone) (tt, shown_left s (beat (Arrive i) entries []) (capacity s) i h gone) (on_none (lba 0) gone) windows blocks_are;
+        (blocks_allow (capacity s) s.hist.blocks gone) (tt, shown_left s (beat (Arrive i) entries []) (capacity s) i h gone) (λ b. on_no_block b gone) (on_none (lba 0) gone)
+        (in_order gone) windows blocks_are;
     fits = after_it;
     counted = omega (arith, asked.arrived);
     ended = sym (none_told s gone);

@@ -11,8 +11,9 @@ use Rattle.cdb_reader.specs.declared.plan.Plan.{Plan}
 use Rattle.cdb_reader.specs.declared.plan.Plan.TheVariants.{Reading, Writing, Syncing}
 use Rattle.command_engine.specs.declared.step.Step.{Step}
 use Rattle.command_engine.specs.declared.step.Step.TheVariants.{Trying}
-use Rattle.drive_core.specs.Scene.{last_found}
-use Rattle.drive_core.specs.Commands.{View, IsAtBlock, IsTrying}
+use Rattle.drive_scene.specs.Scene.{last_found}
+use Rattle.drive_scene.specs.View.{View}
+use Rattle.drive_core.specs.Commands.{IsAtBlock, IsTrying}
 
 -- it reads, writes or syncs: what holds of these three holds of it
 pub at_block : (v : View) (P : Plan → Step → Type 0) → ((r : reading.Reading) (p : Progress) → IsTrying v r p → P (Reading r) (Trying p))

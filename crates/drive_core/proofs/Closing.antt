@@ -33,16 +33,18 @@ use Rattle.block_machine.specs.State.{State, Duty}
 use Rattle.block_machine.specs.Entries.{ends_as_told, recovery_within}
 use Rattle.drive_core.specs.declared.accepted.Accepted.{Accepted}
 use Rattle.drive_core.specs.declared.server.Server.{Server}
-use Rattle.drive_core.specs.declared.answer.Ended as told_end
-use Rattle.drive_core.specs.Scene.{Scene}
+use Rattle.drive_scene.specs.declared.answer.Ended as told_end
+use Rattle.drive_scene.specs.Scene.{Scene, beat}
 use Rattle.drive_core.specs.Accepting.{Replaces}
-use Rattle.drive_core.specs.Ending.{ended_of_member, ended_in}
-use Rattle.drive_core.specs.GoodTurn.{GoodTurn}
+use Rattle.drive_scene.specs.Ending.{ended_of_member, ended_in}
+use Rattle.drive_scene.specs.GoodTurn.{GoodTurn}
 use Rattle.drive_core.specs.Commands.{IsOwnRecovery}
-use Rattle.drive_core.specs.Fits.{IsPresentMap, HasOps, Fits}
-use Rattle.drive_core.specs.Moves.{Moves, beat}
-use Rattle.drive_core.proofs.Halves.{Half}
-use Rattle.drive_core.proofs.Fitting.{after_half, after_end, IsLeft}
+use Rattle.drive_scene.specs.Present.{IsPresentMap}
+use Rattle.drive_core.specs.Fits.{HasOps, Fits}
+use Rattle.drive_core.specs.Moves.{Moves}
+use Rattle.drive_scene.specs.Half.{Half}
+use Rattle.drive_scene.proofs.Elsewhere.{after_half, after_end}
+use Rattle.drive_core.proofs.Fitting.{IsLeft}
 
 -- a plan that a reply fulfils
 over_is : (o : Option Plan) → is_over (plan_after o []) ≡ true → o ≡ Some Over

@@ -2,7 +2,7 @@
 use Rattle.std.proofs.Common.{◌≡◌, ℕ, ◌<◌, Bool, true, false, cond, List, [], ◌∷◌, ◌++◌, length, Option, Some, None, refl, sym, ap, ◌∙◌, subst, arith}
 use Rattle.std.specs.Prelude.{MatchOption, ◌&&◌, ◌||◌, nat_le}
 use Rattle.std.specs.List.{list_any}
-use Rattle.std.specs.Option.{option_map_or}
+use Rattle.std.specs.Option.{option_map_or, option_or}
 use Rattle.std.proofs.lemmas.Bool.{leb-false}
 use Rattle.disk_base.specs.Along.{Along}
 use Rattle.platter_model.specs.TrueLog.{is_off}
@@ -16,31 +16,34 @@ use Rattle.block_machine.specs.declared.turn.Label.{Label}
 use Rattle.block_machine.specs.declared.turn.Turn.{Turn}
 use Rattle.block_machine.specs.State.{State}
 use Rattle.block_machine.specs.Steps.{entry_after, begun}
-use Rattle.drive_core.specs.declared.event.Event.{Event}
-use Rattle.drive_core.specs.declared.event.Event.TheVariants as event
-use Rattle.drive_core.specs.declared.answer.Pick.{Pick}
-use Rattle.drive_core.specs.declared.answer.TurnAnswer.{TurnAnswer}
-use Rattle.drive_core.specs.declared.answer.TurnAnswer.TheVariants as answer
+use Rattle.drive_scene.specs.declared.event.Event.{Event}
+use Rattle.drive_scene.specs.declared.event.Event.TheVariants as event
+use Rattle.drive_scene.specs.declared.answer.Pick.{Pick}
+use Rattle.drive_scene.specs.declared.answer.TurnAnswer.{TurnAnswer}
+use Rattle.drive_scene.specs.declared.answer.TurnAnswer.TheVariants as answer
 use Rattle.drive_core.specs.declared.accepted.Accepted.{Accepted}
 use Rattle.drive_core.specs.declared.server.Server.{Server}
 use Rattle.drive_core.specs.declared.turning.Served.{Served}
-use Rattle.drive_core.specs.Scene.{Scene, Beat, capacity}
-use Rattle.drive_core.specs.Evidence.{Shows}
-use Rattle.drive_core.specs.Run.{Run, run_of, scene_of}
-use Rattle.drive_core.specs.Commands.{view, IsStaged}
+use Rattle.drive_scene.specs.Scene.{Scene, Beat, capacity, beat}
+use Rattle.drive_scene.specs.Evidence.{Shows}
+use Rattle.drive_scene.specs.Run.{Run, run_of, scene_of}
+use Rattle.drive_scene.specs.View.{view}
+use Rattle.drive_core.specs.Commands.{IsStaged}
 use Rattle.drive_core.specs.Accepting.{accepted_of}
 use Rattle.drive_core.specs.Fits.{IsCached, KnowsHistory, Fits}
 use Rattle.drive_core.specs.Kept.{Kept}
-use Rattle.drive_core.specs.Moves.{Moves, IsSameServer, beat}
-use Rattle.drive_core.specs.Able.{refusal, refusal_on, work_refused, is_spent, needs_power, picked, nothing_waiting}
+use Rattle.drive_core.specs.Moves.{Moves, IsSameServer}
+use Rattle.drive_scene.specs.Able.{refusal, refusal_on, work_refused, is_spent, needs_power, picked, nothing_waiting}
 use Rattle.drive_core.specs.Served.{IsServed}
 use Rattle.drive_core.specs.Serving.{MayServe, IsServedTurn}
-use Rattle.drive_core.specs.Turning.{AddsTurn, coming_after, is_scanned}
+use Rattle.drive_scene.specs.Turning.{AddsTurn, coming_after, is_scanned}
 use Rattle.drive_core.proofs.Pushes.{kept-push}
+use Rattle.geometry_map.specs.declared.size.Size.{Size}
 
 -- room aside, the parts of a drive fit as before
 pub fits-same : (s : Scene) (old new : Server) → IsSameServer old new → Fits s old → Fits s new
 fits-same s old new same fits = record {
+  size = fits.size;
   store = record {
     map = same.store.map ∙ fits.store.map;
     ops = same.store.ops ∙ fits.store.ops;
@@ -93,22 +96,23 @@ free_at_none s n event.Scan is = is
 free_at_none s n event.Destage is = is
 free_at_none s n (event.World w) is = is
 
-none_before : (t : Bool) (a : TurnAnswer) (o : Option TurnAnswer) → cond t (Some a) o ≡ None → (t ≡ false) × (o ≡ None)
-none_before true a o is = absurd (cc)
-none_before false a o is = (refl, is)
+no_reason : (t u : Bool) (a b : TurnAnswer) (o : Option TurnAnswer) → option_or (option_or (cond t (Some a) None) (cond u (Some b) None)) o ≡ None
+    → (u ≡ false) × (o ≡ None)
+no_reason true u a b o is = absurd (cc)
+no_reason false true a b o is = absurd (cc)
+no_reason false false a b o is = (refl, is)
 
 pub may_serve : (d : Server) (turns : List Turn) (coming : ℕ) (e : Event) → Kept (run_of d.store turns coming) d → IsServed d.store.map.size e
     → refusal (run_of d.store turns coming) e ≡ None → MayServe (scene_of (run_of d.store turns coming)) d e
 may_serve d turns coming e kept served free =
     let s : Scene = scene_of (run_of d.store turns coming) in
-    let on = none_before (needs_power e && is_off d.store.platter.ops) answer.Off
-    (cond (is_spent (run_of d.store turns coming)) (Some answer.Spent) (refusal_on (scene_of (run_of d.store turns coming)) coming e)) free in
-    let left = none_before (is_spent (run_of d.store turns coming)) answer.Spent (refusal_on (scene_of (run_of d.store turns coming)) coming e) on.1 in
+    let none = no_reason (needs_power e && is_off d.store.platter.ops) (is_spent (run_of d.store turns coming)) answer.Off answer.Spent
+    (refusal_on (scene_of (run_of d.store turns coming)) coming e) free in
     record {
       fits = kept.fits;
-      served = subst (λ (m : DefectMap). IsServed m.size e) kept.fits.store.map served;
-      free = free_at_none s coming e left.1;
-      numbered = omega (arith, kept.numbered, few (length turns) left.0);
+      served = subst (λ (z : Size). IsServed z e) (ap (λ (m : DefectMap). m.size) kept.fits.store.map ∙ kept.fits.size) served;
+      free = free_at_none s coming e none.1;
+      numbered = omega (arith, kept.numbered, few (length turns) none.0);
     }
   where
     few : (n : ℕ) → nat_le 4294967294 n ≡ false → n < 4294967294

@@ -11,12 +11,11 @@ use Rattle.disk_base.specs.declared.address.Lba.{Lba}
 use Rattle.disk_base.specs.declared.block.Value.{Value}
 use Rattle.disk_base.specs.declared.block.Value.TheVariants.{Data}
 use Rattle.write_cache.specs.Contents.{Contents, is_at, newest, is_within, dirty_within, IsLeast}
-use Rattle.block_machine.specs.Blocks.{Blocks, is_dirty, none_dirty}
-use Rattle.block_machine.specs.Blocks.{newest as newest_value}
+use Rattle.block_machine.specs.Blocks.{Blocks, is_dirty, none_dirty, newest as newest_value}
 use Rattle.block_machine.proofs.Booleans.{and_both, both}
-use Rattle.drive_core.specs.Holds.{first_dirty}
+use Rattle.drive_scene.specs.Holds.{first_dirty}
 use Rattle.drive_core.proofs.Settling.{same_address}
-use Rattle.drive_core.proofs.HardenTurns.{dirty-newest}
+use Rattle.drive_scene.proofs.HardenTurns.{dirty-newest}
 
 module _ (p : ℕ → Bool) where
   -- none of a range passes

@@ -1,7 +1,6 @@
 -- The parts of a drive fit again after a turn of work.
 use Rattle.std.proofs.Common.{◌≡◌, ◌≢◌, ℕ, ◌≤◌, List, [], ◌∷◌, ◌++◌, Option, Some, None, refl, sym, ap, ◌∙◌, subst}
 use Rattle.std.specs.Prelude.{All}
-use Rattle.std.proofs.lemmas.List.Sums.{fold_push}
 use Rattle.std.proofs.lemmas.List.Elements.{All-filter}
 use Rattle.platter_model.specs.declared.op.Op.{Op}
 use Rattle.sense_data.specs.declared.reply.Reply.{Reply}
@@ -9,44 +8,40 @@ use Rattle.task_set.specs.declared.member.Member.{Member}
 use Rattle.task_set.specs.Members.{member_of, without}
 use Rattle.cdb_reader.specs.declared.plan.Plan.{Plan}
 use Rattle.sense_data.specs.Attentions.{Waiting}
+use Rattle.mode_pages.specs.declared.settings.Settings.{Settings}
 use Rattle.history_replay.specs.declared.known.Known.{Known}
 use Rattle.history_replay.specs.Warning.{KnownWait}
 use Rattle.block_machine.specs.declared.entry.Entry.{Entry}
 use Rattle.block_machine.specs.declared.entry.Entry.TheVariants.{Ended}
 use Rattle.block_machine.specs.declared.turn.Label.TheVariants.{Work}
-use Rattle.block_machine.specs.Blocks.{is_dirty}
 use Rattle.block_machine.specs.State.{State, owed_by}
-use Rattle.block_machine.specs.Steps.{begun, entry_after}
+use Rattle.block_machine.specs.Steps.{entry_after}
 use Rattle.drive_core.specs.declared.accepted.Accepted.{Accepted}
 use Rattle.drive_core.specs.declared.server.Server.{Server}
-use Rattle.drive_core.specs.Scene.{Scene, capacity, scene_after, settings_by, recovered_by, windows_with, window_after}
-use Rattle.drive_core.specs.Holds.{held_by_plan, held_block}
+use Rattle.drive_scene.specs.Scene.{Scene, capacity}
+use Rattle.drive_scene.specs.Holds.{held_by_plan, held_block}
 use Rattle.drive_core.specs.Accepting.{accepted_of, Replaces}
-use Rattle.drive_core.specs.Commands.{view, IsStaged}
-use Rattle.drive_core.specs.GoodTurn.{IsStood}
+use Rattle.drive_scene.specs.View.{view}
+use Rattle.drive_core.specs.Commands.{IsStaged}
+use Rattle.drive_scene.specs.GoodTurn.{IsStood}
 use Rattle.drive_core.specs.Fits.{HasOps, IsCached, KnowsHistory, Fits}
-use Rattle.drive_core.specs.Moves.{beat}
-use Rattle.drive_core.proofs.Tables.{put_at-other}
-use Rattle.drive_core.proofs.Keyed.{find-dropped_own, find-dropped_other}
-use Rattle.drive_core.proofs.Elsewhere.{IsAlike, held-alike, staged-alike, all_staged}
-use Rattle.drive_core.proofs.Halves.{Half, windows_then}
-use Rattle.drive_core.proofs.Apart.{HoldsAlone, held_of, held_out, apart_on, apart_none}
+use Rattle.drive_scene.proofs.Keyed.{find-dropped_own}
+use Rattle.drive_scene.proofs.Elsewhere.{held-alike, after_half, after_end, alike-half, reached-end, alike-end}
+use Rattle.drive_core.proofs.Elsewhere.{staged-alike, all_staged}
+use Rattle.drive_scene.specs.Half.{Half}
+use Rattle.drive_scene.proofs.Halves.{windows_then}
+use Rattle.drive_scene.proofs.Apart.{HoldsAlone, held_of, held_out, apart_on, apart_none}
+use Rattle.drive_core.proofs.Windows.{room_of}
+use Rattle.geometry_map.specs.Size.{capacity_of}
 
--- the scene after half a turn
-abbrev pub after_half : Scene → ℕ → List Op → List Entry → Scene
-after_half s c ops entries = scene_after s (beat (Work c) entries ops)
-
--- and after the command's end
-abbrev pub after_end : Scene → ℕ → List Op → List Entry → Reply → Scene
-after_end s c ops entries reply = scene_after s (beat (Work c) (entries ++ Ended c reply ∷ []) ops)
-
--- mode values and the scan stay known where the history keeps them, and the attentions that wait then are known
-pub known-told : (s t : Scene) (known : Known) (waiting : Waiting) → t.map ≡ s.map → t.hist.settings ≡ s.hist.settings → t.hist.waiting ≡ waiting → KnownWait waiting
-    → t.hist.corrupt ≡ s.hist.corrupt → t.hist.scan ≡ s.hist.scan → KnowsHistory s known → KnowsHistory t (record known { waiting = waiting })
-known-told s t known waiting map settings waits warned corrupt scan k = record {
-  capacity = k.capacity ∙ ap (λ m. capacity (record s { map = m })) (sym map);
-  settings = k.settings ∙ sym settings;
-  retry = subst (λ x. x.retry ≤ 20) (sym settings) k.retry;
+-- the scan stays known where the history keeps it, and the mode values and the attentions that wait then are known
+pub known-told : (s t : Scene) (known : Known) (settings : Settings) (waiting : Waiting) → t.size ≡ s.size → t.hist.settings ≡ settings → settings.retry ≤ 20
+    → t.hist.waiting ≡ waiting → KnownWait waiting → t.hist.corrupt ≡ s.hist.corrupt → t.hist.scan ≡ s.hist.scan → KnowsHistory s known
+    → KnowsHistory t (record known { settings = settings; waiting = waiting })
+known-told s t known settings waiting size holds few waits warned corrupt scan k = record {
+  capacity = k.capacity ∙ ap capacity_of (sym size);
+  settings = sym holds;
+  retry = subst (λ (x : Settings). x.retry ≤ 20) (sym holds) few;
   waiting = sym waits;
   warned = warned;
   corrupt = k.corrupt ∙ sym corrupt;
@@ -54,24 +49,15 @@ known-told s t known waiting map settings waits warned corrupt scan k = record {
   scan = k.scan ∙ sym scan;
 }
 
--- so do the attentions
-pub known-quiet : (s t : Scene) (known : Known) → t.map ≡ s.map → t.hist.settings ≡ s.hist.settings → t.hist.waiting ≡ s.hist.waiting → t.hist.corrupt ≡ s.hist.corrupt
-    → t.hist.scan ≡ s.hist.scan → KnowsHistory s known → KnowsHistory t known
-known-quiet s t known map settings waits corrupt scan k =
-    known-told s t known known.waiting map settings (waits ∙ sym k.waiting) k.warned corrupt scan k
+-- the mode values of the history are those that the drive knows
+pub retry-known : (s : Scene) (known : Known) → KnowsHistory s known → known.settings.retry ≤ 20
+retry-known s known k = subst (λ (x : Settings). x.retry ≤ 20) (sym k.settings) k.retry
 
--- other commands after half a turn
-pub alike-half : (s : Scene) (c : ℕ) (ops : List Op) (entries : List Entry) (h : State) (plan : Plan) → Half s c ops entries h plan
-    → (q : ℕ) → q ≢ c → IsAlike s (after_half s c ops entries) q
-alike-half s c ops entries h plan half q other = record {
-  map = refl;
-  member = ap (λ (x : State). member_of x.set q) half.reached ∙ ap (λ (set : List Member). member_of set q) half.quiet.set;
-  duty = ap (λ (x : State). x.duties q) half.reached ∙ half.quiet.duties q other;
-  window = put_at-other c q (window_after c (s.windows c) (beat (Work c) entries ops)) s.windows other;
-  settings = ap (λ f. f q) half.settings;
-  recovered = half.recovered q other;
-  dirty = λ n holds. ap (λ (x : State). is_dirty (x.blocks n)) half.reached ∙ half.undirtied q n other holds;
-}
+-- all stay known where the history keeps them
+pub known-quiet : (s t : Scene) (known : Known) → t.size ≡ s.size → t.hist.settings ≡ s.hist.settings → t.hist.waiting ≡ s.hist.waiting → t.hist.corrupt ≡ s.hist.corrupt
+    → t.hist.scan ≡ s.hist.scan → KnowsHistory s known → KnowsHistory t known
+known-quiet s t known size settings waits corrupt scan k =
+    known-told s t known known.settings known.waiting size (settings ∙ sym k.settings) (retry-known s known k) (waits ∙ sym k.waiting) k.warned corrupt scan k
 
 -- what a half turn's scene has of the history
 pub fits_on : (s : Scene) (c : ℕ) (ops : List Op) (entries : List Entry) (h : State) (plan : Plan) (d e : Server) (a : Accepted) → Half s c ops entries h plan
@@ -84,6 +70,7 @@ fits_on s c ops entries h plan d e a half fits set_is arrived_is known_is replac
     let arrived : t.hist.arrived ≡ s.hist.arrived = ap (λ (x : State). x.arrived) half.reached ∙ half.quiet.arrived in
     let held : held_block t c ≡ held_by_plan (t.windows c) plan = held_of t c plan (ap (λ (x : State). owed_by x c) half.reached ∙ half.owes) in
     record {
+      size = fits.size;
       store = has_ops;
       cached = cached;
       known = subst (λ (k : Known). KnowsHistory (after_half s c ops entries) k) (sym known_is) (known-quiet s (after_half s c ops entries) d.known refl
@@ -101,7 +88,7 @@ fits_on s c ops entries h plan d e a half fits set_is arrived_is known_is replac
           (alike-half s c ops entries h plan half q other) (replaces.others q other) (fits.staged q));
       apart = apart_on s (after_half s c ops entries) c fits.apart
           (λ q other. held-alike s (after_half s c ops entries) q (alike-half s c ops entries h plan half q other)) (λ b holds. alone b (sym held ∙ holds));
-      windows = windows_then s c ops entries h plan d half fits entries;
+      windows = windows_then s c ops entries h plan (room_of s c d fits) half entries;
       stands = subst (λ (x : State). IsStood s.map (s.ops ++ ops) x.blocks) (sym half.reached) half.stands;
     }
 
@@ -113,28 +100,6 @@ pub record IsLeft (d e : Server) (c : ℕ) : Type 0 where
   pub arrived : e.arrived ≡ d.arrived
   pub known : e.known ≡ d.known
 
--- the history after the end
-pub reached-end : (s : Scene) (c : ℕ) (ops : List Op) (entries : List Entry) (h : State) (plan : Plan) (reply : Reply) → Half s c ops entries h plan
-    → (after_end s c ops entries reply).hist ≡ entry_after (capacity s) (Work c) h (Ended c reply)
-reached-end s c ops entries h plan reply half =
-    fold_push (entry_after (capacity s) (Work c)) (begun s.hist (Work c)) entries (Ended c reply)
-    ∙ ap (λ (x : State). entry_after (capacity s) (Work c) x (Ended c reply)) half.reached
-
-alike-end : (s : Scene) (c : ℕ) (ops : List Op) (entries : List Entry) (h : State) (plan : Plan) (reply : Reply) → Half s c ops entries h plan
-    → (q : ℕ) → q ≢ c → IsAlike s (after_end s c ops entries reply) q
-alike-end s c ops entries h plan reply half q other =
-    let reached = reached-end s c ops entries h plan reply half in
-    record {
-      map = refl;
-      member = ap (λ (x : State). member_of x.set q) reached ∙ (find-dropped_other (λ (m : Member). m.task.c) c q h.set other
-          ∙ ap (λ (set : List Member). member_of set q) half.quiet.set);
-      duty = ap (λ (x : State). x.duties q) reached ∙ (put_at-other c q _ h.duties other ∙ half.quiet.duties q other);
-      window = put_at-other c q (window_after c (s.windows c) (beat (Work c) (entries ++ Ended c reply ∷ []) ops)) s.windows other;
-      settings = ap (λ f. f q) (fold_push (settings_by s.hist.settings) s.settings entries (Ended c reply) ∙ half.settings);
-      recovered = ap (λ f. f q) (fold_push (recovered_by (windows_with (Work c) s.windows ops)) s.recovered entries (Ended c reply)) ∙ half.recovered q other;
-      dirty = λ n holds. ap (λ (x : State). is_dirty (x.blocks n)) reached ∙ half.undirtied q n other holds;
-    }
-
 pub fits_end : (s : Scene) (c : ℕ) (ops : List Op) (entries : List Entry) (h : State) (plan : Plan) (reply : Reply) (d e : Server) → Half s c ops entries h plan
     → Fits s d → IsLeft d e c → HasOps (after_end s c ops entries reply) e.store → IsCached (after_end s c ops entries reply) e.store.cache
     → Fits (after_end s c ops entries reply) e
@@ -145,6 +110,7 @@ fits_end s c ops entries h plan reply d e half fits left has_ops cached =
     let arrived : t.hist.arrived ≡ s.hist.arrived = ap (λ (x : State). x.arrived) reached ∙ half.quiet.arrived in
     let gone : member_of t.hist.set c ≡ None = ap (λ (ms : List Member). member_of ms c) set ∙ find-dropped_own (λ (m : Member). m.task.c) c s.hist.set in
     record {
+      size = fits.size;
       store = has_ops;
       cached = cached;
       known = subst (λ (k : Known). KnowsHistory (after_end s c ops entries reply) k) (sym left.known) (known-quiet s (after_end s c ops entries reply) d.known refl
@@ -163,6 +129,6 @@ fits_end s c ops entries h plan reply d e half fits left has_ops cached =
           (alike-end s c ops entries h plan reply half q other) (left.others q other) (fits.staged q));
       apart = apart_none s (after_end s c ops entries reply) c fits.apart
           (λ q other. held-alike s (after_end s c ops entries reply) q (alike-end s c ops entries h plan reply half q other)) (held_out t c gone);
-      windows = windows_then s c ops entries h plan d half fits (entries ++ Ended c reply ∷ []);
+      windows = windows_then s c ops entries h plan (room_of s c d fits) half (entries ++ Ended c reply ∷ []);
       stands = subst (λ (x : State). IsStood s.map (s.ops ++ ops) x.blocks) (sym reached) half.stands;
     }

@@ -28,7 +28,7 @@ use Rattle.write_cache.specs.Contents.{Contents, IsCache, newest, clean_data, af
 use Rattle.write_cache.specs.Laws.{KeepsOthers}
 use Rattle.sector_store.specs.Shapes.{try_of}
 use Rattle.sector_store.specs.Stored.{stored, KeepsBlocks}
-use Rattle.sector_store.specs.State.{Contained}
+use Rattle.sector_store.specs.State.{Contained, try_answer}
 use Rattle.cdb_reader.specs.declared.plan.Reading as reading
 use Rattle.cdb_reader.specs.declared.plan.Plan.TheVariants.{Reading, Unread}
 use Rattle.command_engine.specs.declared.answer.Answer.{Answer}
@@ -43,24 +43,26 @@ use Rattle.block_machine.specs.declared.turn.Label.TheVariants.{Work}
 use Rattle.block_machine.specs.Blocks.{is_dirty, same_value, allowed}
 use Rattle.drive_core.specs.declared.accepted.Accepted.{Accepted}
 use Rattle.drive_core.specs.declared.server.Server.{Server}
-use Rattle.drive_core.specs.declared.answer.Ended as told_end
+use Rattle.drive_scene.specs.declared.answer.Ended as told_end
 use Rattle.drive_core.specs.declared.taking.Sought.{Sought}
-use Rattle.drive_core.specs.Scene.{Scene, capacity, last_found, windows_with}
-use Rattle.drive_core.specs.Holds.{holder_besides}
-use Rattle.drive_core.specs.Evidence.{lba, FoundByStages, FoundNowhere, may_use_cache}
-use Rattle.drive_core.specs.Commands.{view, IsTrying, IsWorking}
-use Rattle.drive_core.specs.Fits.{IsPresentMap, IsClean, IsCached, Fits}
+use Rattle.drive_scene.specs.Scene.{Scene, capacity, last_found, windows_with}
+use Rattle.drive_scene.specs.Holds.{holder_besides}
+use Rattle.drive_scene.specs.Evidence.{lba, FoundByStages, FoundNowhere, may_use_cache}
+use Rattle.drive_scene.specs.View.{view}
+use Rattle.drive_core.specs.Commands.{IsTrying, IsWorking}
+use Rattle.drive_scene.specs.Present.{IsPresentMap}
+use Rattle.drive_core.specs.Fits.{IsClean, IsCached, Fits}
 use Rattle.drive_core.specs.Moves.{Moves}
-use Rattle.sector_store.specs.State.{try_answer}
 use Rattle.drive_core.specs.Taking.{answer_of, IsLooked, IsStageTried, IsSought, value_got, got_entries}
-use Rattle.drive_core.proofs.Tables.{put_at-own}
-use Rattle.drive_core.proofs.Gets.{may_get-newest, may_get-allowed, may_get-lost, dirty_by_newest, undirty_by_newest}
-use Rattle.drive_core.proofs.Tries.{tried_ops, last_found-try, found_value-here, failed-more, failed-all, next_stage-at, none_left, no_strays-before}
+use Rattle.drive_scene.proofs.Tables.{put_at-own, within_map}
+use Rattle.drive_scene.proofs.Gets.{may_get-newest, may_get-allowed, may_get-lost, dirty_by_newest, undirty_by_newest}
+use Rattle.drive_scene.proofs.Tries.{tried_ops, last_found-try, found_value-here, failed-more, failed-all, next_stage-at, none_left, no_strays-before}
 use Rattle.drive_core.proofs.Parts.{cached_got, cached_keep, cached_look, is_off-try, faults-try}
 use Rattle.drive_core.proofs.Closing.{Goes, Stops, has_ops}
-use Rattle.drive_core.proofs.GetTurns.{no_ops, try_ops, begun-owes}
+use Rattle.drive_scene.proofs.GetTurns.{no_ops, try_ops, begun-owes}
 use Rattle.drive_core.proofs.ReadTurns.{course}
 use Rattle.drive_core.proofs.Taken.{IsReadTurn, got_data, got_lost, missed}
+use Rattle.geometry_map.specs.declared.size.Size.{Size}
 
 -- two blocks are never at one sector
 abbrev pub OwnPlaces : DefectMap → Type 0
@@ -78,7 +80,7 @@ module _ (s : Scene) (c : ℕ) (m : Member) (a : Accepted) (settings : Settings)
     pub working : IsWorking (view s c) m (course s c m settings gives r p rec stage)
     pub next_is : next_stage p ≡ Some stage
     pub left : r.at < r.end
-    pub free : holder_besides s c r.at ≡ None
+    pub free : holder_besides s (Work c) r.at ≡ None
     pub own : OwnPlaces s.map
     pub present : IsPresentMap e.store.map e.store.platter.ops
     pub once : IsCache d.store.cache
@@ -149,7 +151,7 @@ module _ (s : Scene) (c : ℕ) (m : Member) (a : Accepted) (settings : Settings)
       (λ none. let before : strays s.ops ≡ 0 = no_strays-before s.ops [] none in
       may_get-allowed (s.hist.blocks r.at) (Data bytes) is.undirty
       (subst (λ (v : Value). list_any (same_value v) (allowed (s.hist.blocks r.at)) ≡ true) (is.stored before)
-      (made.fits.stands before s.map made.fits.store.present.may_be (lba r.at) below)))
+      (made.fits.stands before s.map made.fits.store.present.may_be (lba r.at) (within_map s (lba r.at) made.fits.size below))))
       (λ none undirty. sym (is.stored (no_strays-before s.ops [] none)))
       (λ es undirty. inr (ap (may_use_cache (s.settings c)) owing ∙ uses, is.known))
       (inr (unfound, first)) made.course_is made.reply_is made.goes made.stops)
@@ -188,7 +190,7 @@ module _ (s : Scene) (c : ℕ) (m : Member) (a : Accepted) (settings : Settings)
         working = made.working;
         free = made.free;
         below = below;
-        quiet = try_ops s (lba r.at) (length d.store.platter.ops) stage found (λ q within same. ap (λ (x : Lba). x.0) (made.own q (lba r.at) within below same)) kept;
+        quiet = try_ops s (lba r.at) (length d.store.platter.ops) stage found (λ q within same. ap (λ (x : Lba). x.0) (made.own q (lba r.at) (within_map s q made.fits.size within) (within_map s (lba r.at) made.fits.size below) same)) kept;
         added = added;
         present = present;
         has = λ t map_so ops_so. has_ops s t d.store e.store ops made.fits.store map_so ops_so map_is added (ap (λ (x : Platter). x.armed) platter_is)
@@ -204,7 +206,7 @@ module _ (s : Scene) (c : ℕ) (m : Member) (a : Accepted) (settings : Settings)
             (Tried (length d.store.platter.ops) (place_of s.map (lba r.at)) stage (Some new.1))) (sym found_is)
             (Contains-append_right s.since (try_of (length d.store.platter.ops) (place_of s.map (lba r.at)) stage (Some new.1)) _ (1, omega arith, refl))) in
             let clean : IsClean t (lba r.at) new.0 = record {
-              below = subst (λ (n : DefectMap). r.at < capacity_of n.size) (sym got.map) below;
+              below = subst (λ (z : Size). r.at < capacity_of z) (sym got.size) below;
               undirty = got.dirty r.at ∙ undirty_by_newest (s.hist.blocks r.at) (made.fits.cached.dirty (lba r.at) ∙ ap (option_map Data) undirty);
               known = inr (length d.store.platter.ops, place_of s.map (lba r.at), stage, new.1, there, new.3);
               stored = λ none.
@@ -267,7 +269,7 @@ module _ (s : Scene) (c : ℕ) (m : Member) (a : Accepted) (settings : Settings)
       (clean_there r.through (is_dirty (s.hist.blocks r.at)) clean)
       (λ none. may_get-allowed (s.hist.blocks r.at) (Data bytes) clean
       (subst (λ (v : Value). list_any (same_value v) (allowed (s.hist.blocks r.at)) ≡ true) (sym (stored_so none))
-      (made.fits.stands (no_strays-before s.ops ops none) s.map made.fits.store.present.may_be (lba r.at) turn.below)))
+      (made.fits.stands (no_strays-before s.ops ops none) s.map made.fits.store.present.may_be (lba r.at) (within_map s (lba r.at) made.fits.size turn.below))))
       (λ none undirtied. stored_so none)
       (λ es undirtied. inl shown)
       (inl (last_found-try (s.windows c) before at stage (Some payload))) made.course_is made.reply_is made.goes made.stops

@@ -1,18 +1,14 @@
 -- The run of every drive is good.
-use Rattle.std.proofs.Common.{◌≡◌, ℕ, List, [], ◌∷◌, refl, sym, subst}
-use Rattle.std.specs.Prelude.{fold, map}
+use Rattle.std.proofs.Common.{ℕ, List, sym, subst}
+use Rattle.std.specs.Prelude.{map}
 use Rattle.platter_model.specs.TrueLog.{IsTrueLog}
 use Rattle.geometry_map.specs.DefectMap.{IsValidMap}
 use Rattle.block_machine.specs.declared.turn.Turn.{Turn}
 use Rattle.drive_core.specs.declared.server.Server.{Server}
-use Rattle.drive_core.specs.Scene.{Scene, Beat, scene_at_start, scene_after}
-use Rattle.drive_core.specs.Run.{IsGoodRun, run_of, beat_of}
+use Rattle.drive_scene.specs.Scene.{scene_at_start}
+use Rattle.drive_scene.specs.Run.{IsGoodRun, run_of, beat_of}
 use Rattle.drive_core.specs.Kept.{Kept}
-
--- no turn changes the map
-pub map_stays : (s : Scene) (turns : List Beat) → (fold scene_after s turns).map ≡ s.map
-map_stays s [] = refl
-map_stays s (t ∷ turns) = map_stays (scene_after s t) turns
+use Rattle.drive_scene.proofs.Pushes.{map_stays}
 
 pub good_run : (d : Server) (turns : List Turn) (coming : ℕ) → Kept (run_of d.store turns coming) d → IsTrueLog d.store.platter.ops
     → IsGoodRun (run_of d.store turns coming)

@@ -31,21 +31,27 @@ use Rattle.block_machine.specs.Entries.{ends_as_told}
 use Rattle.block_machine.specs.Turns.{owes_nothing_now}
 use Rattle.drive_core.specs.declared.accepted.Accepted.{Accepted}
 use Rattle.drive_core.specs.declared.server.Server.{Server}
-use Rattle.drive_core.specs.declared.answer.Ended as told_end
-use Rattle.drive_core.specs.Scene.{Scene, capacity}
-use Rattle.drive_core.specs.Commands.{view, IsCommand}
-use Rattle.drive_core.specs.Ending.{ended_in, ended_of_member}
-use Rattle.drive_core.specs.Evidence.{IsEndShown}
-use Rattle.drive_core.specs.Fits.{IsPresentMap, HasOps, IsCached, Fits}
+use Rattle.drive_scene.specs.declared.answer.Ended as told_end
+use Rattle.drive_scene.specs.Scene.{Scene, capacity, beat}
+use Rattle.drive_scene.specs.View.{view}
+use Rattle.drive_core.specs.Commands.{IsCommand}
+use Rattle.drive_scene.specs.Ending.{ended_in, ended_of_member}
+use Rattle.drive_scene.specs.Evidence.{IsEndShown}
+use Rattle.drive_scene.specs.Present.{IsPresentMap}
+use Rattle.drive_core.specs.Fits.{HasOps, IsCached, Fits}
 use Rattle.drive_core.specs.Hardening.{Hardens}
-use Rattle.drive_core.specs.Moves.{Moves, beat}
-use Rattle.drive_core.proofs.Tables.{put_at-own, put_at-other}
-use Rattle.drive_core.proofs.Halves.{Half, goes_on, ends}
-use Rattle.drive_core.proofs.Apart.{HoldsAlone}
-use Rattle.drive_core.proofs.Fitting.{after_half, after_end, fits_on, fits_end, reached-end}
+use Rattle.drive_core.specs.Moves.{Moves}
+use Rattle.drive_scene.proofs.Tables.{put_at-own, put_at-other, within_map}
+use Rattle.drive_scene.specs.Half.{Half}
+use Rattle.drive_scene.proofs.Halves.{goes_on, ends}
+use Rattle.drive_scene.proofs.Apart.{HoldsAlone}
+use Rattle.drive_scene.proofs.Elsewhere.{after_half, after_end, reached-end}
+use Rattle.drive_core.proofs.Fitting.{fits_on, fits_end}
 use Rattle.drive_core.proofs.Closing.{Goes, Stops, has_ops, moves_on, moves_end}
-use Rattle.drive_core.proofs.HardenTurns.{IsHarden, hardened_blocks, hardened-newest, dirty-newest, unstrayed}
+use Rattle.drive_scene.specs.Kinds.{IsHarden, hardened_blocks}
+use Rattle.drive_scene.proofs.HardenTurns.{hardened-newest, dirty-newest, unstrayed}
 use Rattle.drive_core.proofs.HardenParts.{IsAfterHarden, cached_hardened}
+use Rattle.drive_core.proofs.Windows.{room_of}
 
 -- a write leaves the power and the write faults as they were
 pub off-written : (ops : List Op) (payload : Payload) → is_off (ops ++ Wrote payload ∷ []) ≡ is_off ops
@@ -86,9 +92,10 @@ module _ (s : Scene) (d e : Server) (c : ℕ) (b : Lba) (bytes : List ℕ) (turn
       (subst (λ (ops : List Op). IsPresentMap e.store.map ops) (sym (added ∙ ap (λ (ops : List Op). ops ++ op_of s b bytes ∷ []) turn.fits.store.ops))
       (subst (λ (m : DefectMap). IsPresentMap m (s.ops ++ op_of s b bytes ∷ [])) (sym (turn.hardens.map ∙ turn.fits.store.map)) present))
 
-  after_scene : (t : Scene) (more : List Entry) → t.map ≡ s.map → t.ops ≡ s.ops ++ op_of s b bytes ∷ [] → t.since ≡ s.since ++ op_of s b bytes ∷ []
+  after_scene : (t : Scene) (more : List Entry) → t.size ≡ s.size → t.map ≡ s.map → t.ops ≡ s.ops ++ op_of s b bytes ∷ [] → t.since ≡ s.since ++ op_of s b bytes ∷ []
       → t.entries ≡ s.entries ++ more → t.hist.blocks ≡ hardened_blocks s b → t.hist.dirty ≡ without_address b.0 s.hist.dirty → IsAfterHarden s t b bytes
-  after_scene t more map_is ops_is since_is entries_are blocks_are order = record {
+  after_scene t more size_is map_is ops_is since_is entries_are blocks_are order = record {
+    size = size_is;
     map = map_is;
     own = ap (λ (f : Blocks). f b.0) blocks_are ∙ (put_at-own b.0 _ s.hist.blocks ∙ hardened-newest (s.hist.blocks b.0) (Data bytes) turn.is.newest);
     others = λ q other. ap (λ (f : Blocks). f q) blocks_are ∙ put_at-other b.0 q _ s.hist.blocks other;
@@ -99,14 +106,14 @@ module _ (s : Scene) (d e : Server) (c : ℕ) (b : Lba) (bytes : List ℕ) (turn
     since = since_is;
     unstrayed = λ none. unstrayed s.ops (op_of s b bytes) (ap strays (sym ops_is) ∙ none);
     stores = (λ i. stored (map_is i) (ops_is i) b) ∙ turn.is.stores s.map present.may_be;
-    keeps = λ q below other. (λ i. stored (map_is i) (ops_is i) q) ∙ turn.is.keeps s.map present.may_be q below other;
+    keeps = λ q below other. (λ i. stored (map_is i) (ops_is i) q) ∙ turn.is.keeps s.map present.may_be q (within_map s q turn.is.size below) other;
   }
 
   -- and its cache
-  cached : (t : Scene) (more : List Entry) → t.map ≡ s.map → t.ops ≡ s.ops ++ op_of s b bytes ∷ [] → t.since ≡ s.since ++ op_of s b bytes ∷ []
+  cached : (t : Scene) (more : List Entry) → t.size ≡ s.size → t.map ≡ s.map → t.ops ≡ s.ops ++ op_of s b bytes ∷ [] → t.since ≡ s.since ++ op_of s b bytes ∷ []
       → t.entries ≡ s.entries ++ more → t.hist.blocks ≡ hardened_blocks s b → t.hist.dirty ≡ without_address b.0 s.hist.dirty → IsCached t e.store.cache
-  cached t more map_is ops_is since_is entries_are blocks_are order =
-      cached_hardened s t b bytes d.store.cache e.store.cache (after_scene t more map_is ops_is since_is entries_are blocks_are order) turn.is.below
+  cached t more size_is map_is ops_is since_is entries_are blocks_are order =
+      cached_hardened s t b bytes d.store.cache e.store.cache (after_scene t more size_is map_is ops_is since_is entries_are blocks_are order) turn.is.below
       (dirty-newest (s.hist.blocks b.0) (Data bytes) turn.is.newest) turn.held turn.hardens.cache turn.fits.cached
 
   module _ (half entries : List Entry) (h : State) (plan : Plan) (told : Option told_end.Ended) (is : Half s c (op_of s b bytes ∷ []) half h plan)
@@ -118,9 +125,9 @@ module _ (s : Scene) (d e : Server) (c : ℕ) (b : Lba) (bytes : List ℕ) (turn
     harden_on a settled none own alone goes =
         let t : Scene = after_half s c (op_of s b bytes ∷ []) half in
         moves_on s c (op_of s b bytes ∷ []) half entries h plan d e a told is
-        (goes_on s c (op_of s b bytes ∷ []) half h plan d turn.fits is settled refl)
+        (goes_on s c (op_of s b bytes ∷ []) half h plan (room_of s c d turn.fits) present is settled refl)
         (fits_on s c (op_of s b bytes ∷ []) half h plan d e a is turn.fits goes.set goes.arrived goes.known goes.replaces (has t refl refl)
-        (cached t half refl refl refl refl (ap (λ (x : State). x.blocks) is.reached ∙ blocks_are) (ap (λ (x : State). x.dirty) is.reached ∙ order)) own alone)
+        (cached t half refl refl refl refl refl (ap (λ (x : State). x.blocks) is.reached ∙ blocks_are) (ap (λ (x : State). x.dirty) is.reached ∙ order)) own alone)
         goes added none
 
     -- or ends
@@ -132,7 +139,7 @@ module _ (s : Scene) (d e : Server) (c : ℕ) (b : Lba) (bytes : List ℕ) (turn
         let t : Scene = after_end s c (op_of s b bytes ∷ []) half reply in
         let reached : t.hist ≡ entry_after (capacity s) (Work c) h (Ended c reply) = reached-end s c (op_of s b bytes ∷ []) half h plan reply is in
         moves_end s c (op_of s b bytes ∷ []) half entries h plan d e reply told is
-        (ends s c (op_of s b bytes ∷ []) half h plan Over reply d turn.fits is may told_so shown)
+        (ends s c (op_of s b bytes ∷ []) half h plan Over reply (room_of s c d turn.fits) present is may told_so shown)
         (fits_end s c (op_of s b bytes ∷ []) half h plan reply d e is turn.fits stops.left (has t refl refl)
-        (cached t (half ++ Ended c reply ∷ []) refl refl refl refl (ap (λ (x : State). x.blocks) reached ∙ blocks_are) (ap (λ (x : State). x.dirty) reached ∙ order)))
+        (cached t (half ++ Ended c reply ∷ []) refl refl refl refl refl (ap (λ (x : State). x.blocks) reached ∙ blocks_are) (ap (λ (x : State). x.dirty) reached ∙ order)))
         stops turn.fits added ended

@@ -17,14 +17,16 @@ use Rattle.block_machine.specs.declared.entry.Entry.{Entry}
 use Rattle.block_machine.specs.Blocks.{is_dirty, after_harden, hardened_with, without_address}
 use Rattle.block_machine.specs.Blocks as blocks
 use Rattle.block_machine.proofs.Booleans.{true_not_false}
-use Rattle.drive_core.specs.Scene.{Scene, capacity}
-use Rattle.drive_core.specs.Evidence.{IsKnown}
+use Rattle.drive_scene.specs.Scene.{Scene, capacity}
+use Rattle.drive_scene.specs.Evidence.{IsKnown}
 use Rattle.drive_core.specs.Fits.{IsClean, IsCached}
 use Rattle.drive_core.specs.Hardening.{Settles}
 use Rattle.drive_core.proofs.Parts.{known-more}
+use Rattle.geometry_map.specs.declared.size.Size.{Size}
 
 -- a scene after another in which a block came to the medium with these data
 pub record IsAfterHarden (s t : Scene) (b : Lba) (bytes : List ℕ) : Type 0 where
+  pub size : t.size ≡ s.size
   pub map : t.map ≡ s.map
   pub own : t.hist.blocks b.0 ≡ hardened_with (Data bytes)
   pub others : (q : ℕ) → q ≢ b.0 → t.hist.blocks q ≡ s.hist.blocks q
@@ -81,7 +83,7 @@ keys_without b (e ∷ es) none = by (keys_without b es) (is_at b e.0) refl none
 -- a block that is clean then: this one, or one that was
 clean_own : (s t : Scene) (b : Lba) (bytes : List ℕ) → IsAfterHarden s t b bytes → b.0 < capacity s → IsKnown s.entries s.since b (Data bytes) → IsClean t b bytes
 clean_own s t b bytes after below known = record {
-  below = subst (λ (m : DefectMap). b.0 < capacity_of m.size) (sym after.map) below;
+  below = subst (λ (z : Size). b.0 < capacity_of z) (sym after.size) below;
   undirty = ap is_dirty after.own;
   known = known_then s t b b bytes (Data bytes) after known;
   stored = λ none. after.stores;
@@ -89,7 +91,7 @@ clean_own s t b bytes after below known = record {
 
 pub clean_other : (s t : Scene) (b q : Lba) (bytes held : List ℕ) → IsAfterHarden s t b bytes → q ≢ b → IsClean s q held → IsClean t q held
 clean_other s t b q bytes held after other clean = record {
-  below = subst (λ (m : DefectMap). q.0 < capacity_of m.size) (sym after.map) clean.below;
+  below = subst (λ (z : Size). q.0 < capacity_of z) (sym after.size) clean.below;
   undirty = ap is_dirty (after.others q.0 (other_number b q other)) ∙ clean.undirty;
   known = known_then s t b q bytes (Data held) after clean.known;
   stored = λ none. after.keeps q clean.below other ∙ clean.stored (after.unstrayed none);

@@ -34,24 +34,26 @@ use Rattle.block_machine.specs.declared.turn.Label.TheVariants.{Work}
 use Rattle.block_machine.specs.Blocks.{none_dirty}
 use Rattle.drive_core.specs.declared.accepted.Accepted.{Accepted}
 use Rattle.drive_core.specs.declared.server.Server.{Server}
-use Rattle.drive_core.specs.declared.answer.Ended as told_end
-use Rattle.drive_core.specs.Scene.{Scene, capacity}
-use Rattle.drive_core.specs.Holds.{holder_besides, needed_block, needed_by_plan}
+use Rattle.drive_scene.specs.declared.answer.Ended as told_end
+use Rattle.drive_scene.specs.Scene.{Scene, capacity}
+use Rattle.drive_scene.specs.Holds.{holder_besides, needed_block, needed_by_plan}
 use Rattle.drive_core.specs.Accepting.{accepted_of, under_way, Replaces}
-use Rattle.drive_core.specs.Evidence.{lba}
-use Rattle.drive_core.specs.Commands.{view, IsWorking}
+use Rattle.drive_scene.specs.Evidence.{lba}
+use Rattle.drive_scene.specs.View.{view}
+use Rattle.drive_core.specs.Commands.{IsWorking}
 use Rattle.drive_core.specs.Fits.{Fits}
 use Rattle.drive_core.specs.Hardening.{Hardens, MayHardenFor, hardened_at, done_before}
-use Rattle.drive_core.specs.Ending.{ended_of_member}
+use Rattle.drive_scene.specs.Ending.{ended_of_member}
 use Rattle.drive_core.specs.Moves.{Moves, Leaves}
 use Rattle.drive_core.proofs.Closing.{Goes, Stops}
 use Rattle.drive_core.proofs.FirstDirty.{none_before_first}
 use Rattle.drive_core.proofs.Hardened.{IsMet, met_dirty, read, sync}
-use Rattle.drive_core.proofs.HardenTurns.{IsHarden}
+use Rattle.drive_scene.specs.Kinds.{IsHarden}
 use Rattle.drive_core.proofs.HardenMoves.{IsHardenTurn}
 use Rattle.drive_core.proofs.MetMoves.{met_course, owed_is, through_moves}
 use Rattle.drive_core.proofs.SyncMoves.{sync_hardens, sync_passes}
 use Rattle.drive_core.proofs.TakeTurns.{WorksAt, works_at, StandsAt, stands_in, free_block}
+use Rattle.drive_scene.proofs.Tables.{within_map}
 
 -- what a turn that hardens a block is made of
 pub record IsHardened (s : Scene) (d e : Server) (c : ℕ) (b : Lba) (bytes : List ℕ) (w : Course) (m : Member) (a : Accepted) (before entries : List Entry)
@@ -163,7 +165,7 @@ turn_moves s d mid e c b before entries reply told may is =
     let fits : Fits s d = may.may.fits in
     let at : WorksAt (accepted_of d.commands.items c) may.course = works_at (accepted_of d.commands.items c) may.course may.under_way in
     let stands : StandsAt s c may.course = stands_in s d c may.course may.may.fits may.under_way in
-    let free : holder_besides s c b.0 ≡ None = free_block s c stands.m b.0 stands.is_in stands.working.started may.needed may.may.free in
+    let free : holder_besides s (Work c) b.0 ≡ None = free_block s c stands.m b.0 stands.is_in stands.working.started may.needed may.may.free in
     let held = some_of (newest b d.store.cache) may.dirty in
     let bytes : List ℕ = held.0 in
     let closed : e.store ≡ mid.store = store_closed mid e c reply (λ none. (is.goes none).0) (λ x some. (is.ends x some).0) in
@@ -173,9 +175,10 @@ turn_moves s d mid e c b before entries reply told may is =
     ap (λ (x : platter.State). x.ops) hardens.platter
     ∙ (λ i. fits.store.ops i ++ Wrote (placed (fits.store.map i) b held.0) ∷ []) in
     let harden : IsHarden s c b held.0 = record {
+      size = fits.size;
       below = below;
       newest = fits.cached.dirty b ∙ ap (option_map Data) held.1;
-      own_sector = λ q within same. is.own s.map fits.store.present.there.valid q b within below same;
+      own_sector = λ q within same. is.own s.map fits.store.present.there.valid q b (within_map s q fits.size within) (within_map s b fits.size below) same;
       free = free;
       stood = fits.stands;
       may_be = fits.store.present.may_be;

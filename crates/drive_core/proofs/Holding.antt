@@ -26,16 +26,17 @@ use Rattle.block_machine.specs.State.{owed_by}
 use Rattle.drive_core.specs.declared.accepted.Accepted.{Accepted}
 use Rattle.drive_core.specs.declared.accepted.Errand.{Errand}
 use Rattle.drive_core.specs.declared.server.Server.{Server}
-use Rattle.drive_core.specs.Scene.{Scene}
-use Rattle.drive_core.specs.Holds.{held_by_plan, holds, first_dirty, needed_by_plan, needed_block}
+use Rattle.drive_scene.specs.Scene.{Scene}
+use Rattle.drive_scene.specs.Holds.{held_by_plan, holds, first_dirty, needed_by_plan, needed_block}
 use Rattle.drive_core.specs.Needed.{IsNeeded, IsFirstWithin, is_held}
-use Rattle.drive_core.specs.Accepting.{is_numbered, accepted_of, under_way, errand_of}
-use Rattle.drive_core.specs.Evidence.{lba}
-use Rattle.drive_core.specs.Commands.{View, view, IsTrying, IsAtBlock, IsWorking}
+use Rattle.drive_core.specs.Accepting.{is_numbered, under_way, errand_of}
+use Rattle.drive_scene.specs.Evidence.{lba}
+use Rattle.drive_scene.specs.View.{View, view}
+use Rattle.drive_core.specs.Commands.{IsTrying, IsAtBlock, IsWorking}
 use Rattle.drive_core.specs.Fits.{IsCached, Fits}
 use Rattle.drive_core.proofs.AtBlock.{at_block}
 use Rattle.drive_core.proofs.Windows.{empty_tried}
-use Rattle.drive_core.proofs.Tries.{next_stage-at}
+use Rattle.drive_scene.proofs.Tries.{next_stage-at}
 use Rattle.drive_core.proofs.Placing.{there}
 use Rattle.drive_core.proofs.FirstDirty.{none_of_cache, least_of_cache, first_dirty-is}
 use Rattle.drive_core.proofs.TakeTurns.{GivenBy, given_by, StandsAt, stands_in, owed_at}

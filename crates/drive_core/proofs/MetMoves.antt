@@ -32,20 +32,22 @@ use Rattle.block_machine.specs.Steps as steps
 use Rattle.block_machine.proofs.Booleans.{and_both}
 use Rattle.drive_core.specs.declared.accepted.Accepted.{Accepted}
 use Rattle.drive_core.specs.declared.server.Server.{Server}
-use Rattle.drive_core.specs.declared.answer.Ended as told_end
-use Rattle.drive_core.specs.Scene.{Scene, capacity, window_after}
-use Rattle.drive_core.specs.Holds.{held_by_plan, held_block, holder_besides}
-use Rattle.drive_core.specs.Commands.{view, IsWorking, IsCommand, IsOwnRange, IsOwnRecovery}
+use Rattle.drive_scene.specs.declared.answer.Ended as told_end
+use Rattle.drive_scene.specs.Scene.{Scene, capacity, window_after, beat}
+use Rattle.drive_scene.specs.Holds.{held_by_plan, held_block, holder_besides}
+use Rattle.drive_scene.specs.View.{view}
+use Rattle.drive_core.specs.Commands.{IsWorking, IsCommand, IsOwnRange, IsOwnRecovery}
 use Rattle.drive_core.specs.Hardening.{hardened_at}
-use Rattle.drive_core.specs.Moves.{Moves, beat}
+use Rattle.drive_core.specs.Moves.{Moves}
 use Rattle.drive_core.proofs.AtBlock.{first_read}
-use Rattle.drive_core.proofs.Tables.{put_at-own}
-use Rattle.drive_core.proofs.Halves.{Half}
-use Rattle.drive_core.proofs.Apart.{holds_next}
-use Rattle.drive_core.proofs.Fitting.{after_half}
+use Rattle.drive_scene.proofs.Tables.{put_at-own}
+use Rattle.drive_scene.specs.Half.{Half}
+use Rattle.drive_scene.proofs.Apart.{holds_next}
+use Rattle.drive_scene.proofs.Elsewhere.{after_half}
 use Rattle.drive_core.proofs.Closing.{Goes}
-use Rattle.drive_core.proofs.Doing.{owed-begun, hardened_duty}
-use Rattle.drive_core.proofs.HardenTurns.{IsHarden, half_hardened, hardened-newest}
+use Rattle.drive_scene.proofs.Doing.{owed-begun, hardened_duty}
+use Rattle.drive_scene.specs.Kinds.{IsHarden}
+use Rattle.drive_scene.proofs.HardenTurns.{half_hardened, hardened-newest}
 use Rattle.drive_core.proofs.HardenMoves.{IsHardenTurn, op_of, harden_on}
 
 -- a command in the set owes its plan
@@ -123,5 +125,5 @@ module _ (s : Scene) (c : ℕ) (m : Member) (settings : Settings) (gives : Bool)
       (Reading (record r { hardened = true })) told half refl refl (record a { work = Some (hardened_at b (met_course (Reading r))) }) refl refl
       (staged_through r a (op_of s b bytes ∷ []) is_in working turn.is left through fresh at)
       (holds_next s c ((after_half s c (op_of s b bytes ∷ []) (Harden (Command c) b ∷ [])).windows c) (record r { hardened = true })
-      (ap (holder_besides s c) (sym at) ∙ turn.is.free))
+      (ap (holder_besides s (Work c)) (sym at) ∙ turn.is.free))
       (goes on)

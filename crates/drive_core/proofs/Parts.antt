@@ -24,12 +24,14 @@ use Rattle.block_machine.specs.declared.entry.Entry.{Entry}
 use Rattle.block_machine.specs.declared.entry.Entry.TheVariants.{Put}
 use Rattle.block_machine.specs.Blocks.{Blocks, is_dirty}
 use Rattle.block_machine.specs.Blocks as blocks
-use Rattle.drive_core.specs.Scene.{Scene}
-use Rattle.drive_core.specs.Evidence.{IsKnown}
+use Rattle.drive_scene.specs.Scene.{Scene}
+use Rattle.drive_scene.specs.Evidence.{IsKnown}
 use Rattle.drive_core.specs.Fits.{IsClean, IsCached}
+use Rattle.geometry_map.specs.declared.size.Size.{Size}
 
 -- a scene after another whose blocks keep their newest values and what is stored
 pub record IsGotOnly (s t : Scene) : Type 0 where
+  pub size : t.size ≡ s.size
   pub map : t.map ≡ s.map
   pub newest : (n : ℕ) → blocks.newest (t.hist.blocks n) ≡ blocks.newest (s.hist.blocks n)
   pub dirty : (n : ℕ) → is_dirty (t.hist.blocks n) ≡ is_dirty (s.hist.blocks n)
@@ -55,7 +57,7 @@ known_got s t b v got known =
 
 pub clean_got : (s t : Scene) (b : Lba) (bytes : List ℕ) → IsGotOnly s t → IsClean s b bytes → IsClean t b bytes
 clean_got s t b bytes got clean = record {
-  below = subst (λ (m : DefectMap). b.0 < capacity_of m.size) (sym got.map) clean.below;
+  below = subst (λ (z : Size). b.0 < capacity_of z) (sym got.size) clean.below;
   undirty = got.dirty b.0 ∙ clean.undirty;
   known = known_got s t b (Data bytes) got clean.known;
   stored = λ none. got.kept b ∙ clean.stored (got.unstrayed none);
@@ -104,9 +106,10 @@ pub faults-try : (ops : List Op) (before : ℕ) (p : Psn) (stage : Stage) (found
 faults-try ops before p stage found q = fold-append (faulty_after q) false ops (try_of before p stage found)
 
 -- a scene after a turn without operations that changes no block
-pub quiet_got : (s t : Scene) (more : List Entry) → t.map ≡ s.map → t.ops ≡ s.ops ++ [] → t.since ≡ s.since ++ [] → t.entries ≡ s.entries ++ more
+pub quiet_got : (s t : Scene) (more : List Entry) → t.size ≡ s.size → t.map ≡ s.map → t.ops ≡ s.ops ++ [] → t.since ≡ s.since ++ [] → t.entries ≡ s.entries ++ more
     → t.hist.dirty ≡ s.hist.dirty → t.hist.blocks ≡ s.hist.blocks → IsGotOnly s t
-quiet_got s t more map_is ops_is since_is entries_is order blocks_are = record {
+quiet_got s t more size_is map_is ops_is since_is entries_is order blocks_are = record {
+  size = size_is;
   map = map_is;
   newest = λ n. ap (λ (bs : Blocks). blocks.newest (bs n)) blocks_are;
   dirty = λ n. ap (λ (bs : Blocks). is_dirty (bs n)) blocks_are;

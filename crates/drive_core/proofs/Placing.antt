@@ -12,7 +12,7 @@ use Rattle.command_engine.specs.Answers.{fits}
 use Rattle.drive_core.specs.declared.accepted.Accepted.{Accepted}
 use Rattle.drive_core.specs.declared.accepted.Errand.{Errand}
 use Rattle.drive_core.specs.Accepting.{is_numbered, accepted_of, under_way, errand_of, Replaces, Drops}
-use Rattle.drive_core.proofs.Keyed.{find-dropped_own, find-dropped_other, found_at, found_nowhere, find-set_own, find-set_other}
+use Rattle.drive_scene.proofs.Keyed.{find-dropped_own, find-dropped_other, found_at, found_nowhere, find-set_own, find-set_other}
 
 -- the command at a place
 pub there : (xs : List Accepted) (c i : ℕ) (a d : Accepted) → position (is_numbered c) xs ≡ Some i → a ≡ get_or xs i d → accepted_of xs c ≡ Some a

@@ -1,64 +1,21 @@
 -- One turn more keeps what is said of a run.
-use Rattle.std.proofs.Common.{◌≡◌, ℕ, ◌+◌, ◌≤◌, List, [], ◌∷◌, ◌++◌, length, refl, sym, ap, ◌∙◌, subst, arith, length-append, Option}
-use Rattle.std.specs.Prelude.{fold, map, slice_range}
-use Rattle.std.proofs.lemmas.Grind.{common_steps}
+use Rattle.std.proofs.Common.{◌≡◌, ℕ, ◌≤◌, List, [], ◌∷◌, ◌++◌, length, sym, ap, ◌∙◌, subst, arith, length-append, Option}
+use Rattle.std.specs.Prelude.{fold, map}
 use Rattle.std.proofs.lemmas.List.Sums.{fold_push}
 use Rattle.disk_base.specs.Along.{Along}
 use Rattle.platter_model.specs.declared.op.Op.{Op}
 use Rattle.block_machine.specs.declared.turn.Turn.{Turn}
 use Rattle.geometry_map.specs.DefectMap.{DefectMap}
-use Rattle.drive_core.specs.declared.answer.Ended.{Ended}
+use Rattle.drive_scene.specs.declared.answer.Ended.{Ended}
 use Rattle.drive_core.specs.declared.server.Server.{Server}
-use Rattle.drive_core.specs.Scene.{Scene, Beat, scene_after, scene_at_start, factory_ops}
-use Rattle.drive_core.specs.GoodTurn.{GoodTurn}
-use Rattle.drive_core.specs.Run.{Run, run_of, beat_of, FollowFrom, scene_of}
+use Rattle.drive_scene.specs.Scene.{Scene, Beat, scene_after, scene_at_start, factory_ops, beat}
+use Rattle.drive_scene.specs.GoodTurn.{GoodTurn}
+use Rattle.drive_scene.specs.Run.{Run, run_of, beat_of, scene_of}
 use Rattle.drive_core.specs.Fits.{Fits}
 use Rattle.drive_core.specs.Kept.{Kept}
-use Rattle.drive_core.specs.Moves.{Moves, beat}
-use Rattle.drive_core.proofs.Tables.{Along-push}
-
--- the turns end no earlier than they begin
-follow-up : (from to : ℕ) (turns : List Turn) → FollowFrom from turns to → from ≤ to
-follow-up from to [] is = omega arith
-follow-up from to (t ∷ turns) is = let later : t.ops_to ≤ to = follow-up t.ops_to to turns is.2 in omega (arith, is.1)
-
--- a range of a beginning is the same range of the whole
-range_kept : {X : Type 0} (xs more : List X) (a b : ℕ) → a ≤ b → b ≤ length xs → slice_range (xs ++ more) a b ≡ slice_range xs a b
-range_kept xs more a b ab within = grind (arith, common_steps)
-
-range_last : {X : Type 0} (xs more : List X) (b : ℕ) → b ≡ length xs + length more → slice_range (xs ++ more) (length xs) b ≡ more
-range_last xs more b is = grind (arith, common_steps)
-
--- more operations change no turn of before
-beats_kept : (ops more : List Op) (from to : ℕ) (turns : List Turn) → FollowFrom from turns to → to ≤ length ops
-    → map (beat_of (ops ++ more)) turns ≡ map (beat_of ops) turns
-beats_kept ops more from to [] is within = refl
-beats_kept ops more from to (t ∷ turns) is within =
-    let later : t.ops_to ≤ to = follow-up t.ops_to to turns is.2 in
-    let own : slice_range (ops ++ more) t.ops_from t.ops_to ≡ slice_range ops t.ops_from t.ops_to =
-    range_kept ops more t.ops_from t.ops_to (omega (arith, is.0, is.1)) (omega arith) in
-    let rest = beats_kept ops more t.ops_to to turns is.2 within in
-    λ i. record { label = t.label; entries = t.entries; ops = own i } ∷ rest i
-
-map_push : (ops : List Op) (turns : List Turn) (t : Turn) → map (beat_of ops) (turns ++ t ∷ []) ≡ map (beat_of ops) turns ++ beat_of ops t ∷ []
-map_push ops [] t = refl
-map_push ops (u ∷ turns) t = ap (λ (bs : List Beat). beat_of ops u ∷ bs) (map_push ops turns t)
-
--- the turns with one more
-beats_push : (ops more : List Op) (from : ℕ) (turns : List Turn) (t : Turn) → FollowFrom from turns (length ops) → t.ops_from ≡ length ops
-    → t.ops_to ≡ length (ops ++ more)
-    → map (beat_of (ops ++ more)) (turns ++ t ∷ []) ≡ map (beat_of ops) turns ++ beat t.label t.entries more ∷ []
-beats_push ops more from turns t is starts ends =
-    let own : slice_range (ops ++ more) t.ops_from t.ops_to ≡ more =
-    ap (λ (n : ℕ). slice_range (ops ++ more) n t.ops_to) starts ∙ range_last ops more t.ops_to (ends ∙ length-append ops more) in
-    map_push (ops ++ more) turns t
-    ∙ (λ i. beats_kept ops more from (length ops) turns is (omega arith) i ++ record { label = t.label; entries = t.entries; ops = own i } ∷ [])
-
--- they follow each other
-follow_push : (from to end : ℕ) (turns : List Turn) (t : Turn) → FollowFrom from turns to → t.ops_from ≡ to → t.ops_to ≡ end → to ≤ end
-    → FollowFrom from (turns ++ t ∷ []) end
-follow_push from to end [] t is starts ends grows = (starts ∙ sym is, omega arith, ends)
-follow_push from to end (u ∷ turns) t is starts ends grows = (is.0, is.1, follow_push u.ops_to to end turns t is.2 starts ends grows)
+use Rattle.drive_core.specs.Moves.{Moves}
+use Rattle.drive_scene.proofs.Tables.{Along-push}
+use Rattle.drive_scene.proofs.Pushes.{beats_push, follow_push}
 
 -- a turn that moves the parts of a drive keeps what its type keeps
 pub kept-push : (old new : Server) (turns : List Turn) (coming next : ℕ) (t : Turn) (told : Option Ended) → Kept (run_of old.store turns coming) old

@@ -23,14 +23,15 @@ use Rattle.block_machine.specs.Blocks as blocks
 use Rattle.block_machine.specs.Deeds.{is_crowded}
 use Rattle.block_machine.specs.State.{Duty}
 use Rattle.block_machine.specs.Steps.{begun}
-use Rattle.drive_core.specs.Scene.{Scene}
-use Rattle.drive_core.specs.Evidence.{IsKnown}
+use Rattle.drive_scene.specs.Scene.{Scene}
+use Rattle.drive_scene.specs.Evidence.{IsKnown}
 use Rattle.drive_core.specs.Fits.{IsClean, IsCached}
 use Rattle.drive_core.specs.Putting.{TakesIn, LeavesOut, NewestBut}
-use Rattle.drive_core.proofs.Tables.{put_at-own}
+use Rattle.drive_scene.proofs.Tables.{put_at-own}
 use Rattle.drive_core.proofs.Parts.{known-more}
-use Rattle.drive_core.proofs.PutTurns.{newest-put}
+use Rattle.drive_scene.proofs.PutTurns.{newest-put}
 use Rattle.drive_core.proofs.HardenParts.{IsAfterHarden, known_then, clean_other, keys_others, keys_without}
+use Rattle.geometry_map.specs.declared.size.Size.{Size}
 
 -- the addresses of the dirty blocks
 abbrev names : List (Lba × List ℕ) → List ℕ
@@ -82,6 +83,7 @@ names-put b v es = by (lookup (is_at b) es) refl
 
 -- a scene after another in which these data of a block were put
 pub record IsAfterPut (s t : Scene) (c : ℕ) (b : Lba) (bytes : List ℕ) : Type 0 where
+  pub size : t.size ≡ s.size
   pub map : t.map ≡ s.map
   pub ops : t.ops ≡ s.ops
   pub own : t.hist.blocks b.0 ≡ after_put (s.hist.blocks b.0) (Data bytes)
@@ -136,7 +138,7 @@ cached_put s t c b bytes old new after takes cached = record {
       let was = takes.clean q held found in
       let before : IsClean s q held = cached.clean q held was.1 in
       record {
-        below = subst (λ (m : DefectMap). q.0 < capacity_of m.size) (sym after.map) before.below;
+        below = subst (λ (z : Size). q.0 < capacity_of z) (sym after.size) before.below;
         undirty = ap is_dirty (after.others q.0 (apart b q was.0)) ∙ before.undirty;
         known = known_put s t c b q bytes (Data held) after before.known;
         stored = λ none. (λ i. stored (after.map i) (after.ops i) q) ∙ before.stored (sym (ap strays after.ops) ∙ none);

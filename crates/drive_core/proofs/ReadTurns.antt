@@ -30,18 +30,18 @@ use Rattle.block_machine.specs.State.{Duty, owed_by}
 use Rattle.block_machine.specs.Steps as steps
 use Rattle.block_machine.proofs.Booleans.{and_both}
 use Rattle.drive_core.specs.declared.accepted.Accepted.{Accepted}
-use Rattle.drive_core.specs.Scene.{Scene, last_found, past_plain_read, window_after}
-use Rattle.drive_core.specs.Holds.{held_by_plan, held_block}
+use Rattle.drive_scene.specs.Scene.{Scene, last_found, past_plain_read, window_after, beat}
+use Rattle.drive_scene.specs.Holds.{held_by_plan, held_block}
 use Rattle.geometry_map.specs.DefectMap.{place_of}
 use Rattle.sector_store.specs.Shapes.{try_of}
-use Rattle.drive_core.specs.Evidence.{lba, FailedBelow}
-use Rattle.drive_core.specs.Commands.{view, IsTrying, IsWorking, IsCommand, IsOwnRange, IsOwnRecovery}
-use Rattle.drive_core.specs.Moves.{beat}
+use Rattle.drive_scene.specs.Evidence.{lba, FailedBelow}
+use Rattle.drive_scene.specs.View.{view}
+use Rattle.drive_core.specs.Commands.{IsTrying, IsWorking, IsCommand, IsOwnRange, IsOwnRecovery}
 use Rattle.drive_core.proofs.AtBlock.{first_read}
-use Rattle.drive_core.proofs.Tables.{put_at-own}
-use Rattle.drive_core.proofs.Tries.{last_found-try, length-try, failed-next, next_stage-at}
-use Rattle.drive_core.proofs.GetTurns.{recovered-got, got-duty, begun-owes, begun-duty}
-use Rattle.drive_core.proofs.Fitting.{after_half}
+use Rattle.drive_scene.proofs.Tables.{put_at-own}
+use Rattle.drive_scene.proofs.Tries.{last_found-try, length-try, failed-next, next_stage-at}
+use Rattle.drive_scene.proofs.GetTurns.{recovered-got, got-duty, begun-owes, begun-duty}
+use Rattle.drive_scene.proofs.Elsewhere.{after_half}
 
 some_left : {X : Type 0} (o : Option X) → is_none o ≡ false → is_some o ≡ true
 some_left None is = absurd (cc)

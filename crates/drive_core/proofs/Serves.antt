@@ -1,5 +1,5 @@
 -- What is served asks for what is served.
-use Rattle.std.proofs.Common.{◌≡◌, ℕ, Bool, true, false, not, cond, List, Option, Some, None, refl, ap}
+use Rattle.std.proofs.Common.{◌≡◌, ℕ, Bool, true, false, not, cond, List, Option, Some, None, refl}
 use Rattle.std.specs.Prelude.{◌||◌, ◌==◌, slice_index, Result, Err}
 use Rattle.std.specs.Option.{option_map_or}
 use Rattle.disk_base.specs.declared.command.DataOut.{DataOut}
@@ -27,13 +27,11 @@ chain false false false false false r served = served
 -- the operations that are served
 abbrev is_served_operation : Option Operation → Bool
 is_served_operation (Some operation.ReassignBlocks) = false
-is_served_operation (Some operation.ModeSelect) = false
 is_served_operation other = true
 
 -- each asks for what is served
 operation_asks : (o : Operation) (bs : List ℕ) (sent : DataOut) (capacity : ℕ) → is_served_operation (Some o) ≡ true → is_served (asked o bs sent capacity) ≡ true
 operation_asks operation.ReassignBlocks bs sent capacity served = absurd (cc)
-operation_asks operation.ModeSelect bs sent capacity served = absurd (cc)
 operation_asks other bs sent capacity served = refl
 
 read_served : (o : Option Operation) (bs : List ℕ) (sent : DataOut) (capacity : ℕ) → is_served_operation o ≡ true
@@ -52,18 +50,15 @@ pass : (b : Bool) (o rest : Option Operation) → b ≡ false → is_served_oper
 pass true o rest is later = absurd (cc)
 pass false o rest is later = later
 
-neither : (a b : Bool) → not (a || b) ≡ true → (a ≡ false) × (b ≡ false)
-neither true b is = absurd (cc)
-neither false true is = absurd (cc)
-neither false false is = (refl, refl)
+isnt : (b : Bool) → not b ≡ true → b ≡ false
+isnt true is = absurd (cc)
+isnt false is = refl
 
 operations : (code : ℕ) → is_served_code code ≡ true → is_served_operation (operation_of code) ≡ true
 unfolding operation_of
 operations code served =
-    let last = neither (code == 0x07 || code == 0x15) (code == 0x55) served in
-    let first = neither (code == 0x07) (code == 0x15) (ap not last.0) in
-    pick (code == 0x00) _ _ refl (pick (code == 0x03) _ _ refl (pass (code == 0x07) _ _ first.0 (pick (code == 0x12) _ _ refl
-    (pass (code == 0x15 || code == 0x55) _ _ (λ j. first.1 j || last.1 j)
+    pick (code == 0x00) _ _ refl (pick (code == 0x03) _ _ refl (pass (code == 0x07) _ _ (isnt (code == 0x07) served) (pick (code == 0x12) _ _ refl
+    (pick (code == 0x15 || code == 0x55) _ _ refl
     (pick (code == 0x1A || code == 0x5A) _ _ refl (pick (code == 0x25) _ _ refl (pick (code == 0x28 || code == 0x88) _ _ refl
     (pick (code == 0x2A || code == 0x8A) _ _ refl (pick (code == 0x2E) _ _ refl (pick (code == 0x2F) _ _ refl
     (pick (code == 0x35 || code == 0x91) _ _ refl (pick (code == 0x37) _ _ refl (pick (code == 0x4D) _ _ refl

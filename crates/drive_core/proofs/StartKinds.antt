@@ -9,7 +9,7 @@ use Rattle.mode_pages.specs.declared.settings.Settings.{Settings}
 use Rattle.read_recovery.specs.Stages as progress
 use Rattle.cdb_reader.specs.declared.command.Command.{Command}
 use Rattle.cdb_reader.specs.declared.plan.Plan.{Plan}
-use Rattle.cdb_reader.specs.declared.plan.Plan.TheVariants.{Ending, Syncing, Over}
+use Rattle.cdb_reader.specs.declared.plan.Plan.TheVariants.{Ending, Changing, Syncing, Over}
 use Rattle.cdb_reader.specs.Plan.{unless_empty, reading_from, writing_from}
 use Rattle.cdb_reader.specs.Read.{in_range, has_data}
 use Rattle.cdb_reader.specs.Replies.{good}
@@ -21,23 +21,25 @@ use Rattle.command_engine.specs.Need.{end_of}
 use Rattle.block_machine.specs.declared.entry.Entry.{Entry}
 use Rattle.block_machine.specs.declared.entry.Entry.TheVariants.{Started}
 use Rattle.block_machine.specs.declared.turn.Label.TheVariants.{Work}
-use Rattle.block_machine.specs.Plans.{answering, answering_sensed, plan_asked}
+use Rattle.block_machine.specs.Plans.{answering, answering_sensed, changing, plan_asked}
+use Rattle.block_machine.specs.Settings.{same_settings, settings_made}
 use Rattle.block_machine.specs.State.{State, initiator_of}
 use Rattle.block_machine.specs.Turns.{owes_nothing_now}
 use Rattle.block_machine.proofs.Booleans.{and_both}
 use Rattle.drive_core.specs.declared.server.Server.{Server}
-use Rattle.drive_core.specs.declared.answer.Ended as told_end
+use Rattle.drive_scene.specs.declared.answer.Ended as told_end
 use Rattle.drive_core.specs.declared.starting.First.{First}
 use Rattle.drive_core.specs.declared.starting.First.TheVariants as first_variant
-use Rattle.drive_core.specs.Scene.{Scene, capacity}
+use Rattle.drive_scene.specs.Scene.{Scene, capacity}
 use Rattle.drive_core.specs.Accepting.{under_way, Replaces}
-use Rattle.drive_core.specs.Commands.{View, IsAtBlock, IsOwnRange, IsOwnRecovery}
-use Rattle.drive_core.specs.Holds.{held_by_plan}
+use Rattle.drive_scene.specs.View.{View}
+use Rattle.drive_core.specs.Commands.{IsAtBlock, IsOwnRange, IsOwnRecovery}
+use Rattle.drive_scene.specs.Holds.{held_by_plan}
 use Rattle.drive_core.specs.Moves.{Moves, MayWork}
 use Rattle.drive_core.specs.Served.{is_served, is_served_plan}
 use Rattle.drive_core.specs.Starting.{IsFirst}
 use Rattle.task_set.specs.Members.{with_started}
-use Rattle.drive_core.proofs.FirstPlans.{plan_of_request, tells}
+use Rattle.drive_scene.proofs.FirstPlans.{plan_of_request, tells}
 use Rattle.drive_core.proofs.AtBlock.{first_read}
 use Rattle.drive_core.proofs.StartTurns.{MayStart, may_start, IsStartOf, BeginsWork, IsWork, begins_with_work, no_ending, plan_of_start, not_empty, few_blocks, starts_working}
 
@@ -58,6 +60,14 @@ no_answer_sensed : (r : Result (List ℕ) Sense) → IsWork (answering_sensed r)
 no_answer_sensed (Ok bytes) work = work
 no_answer_sensed (Err sense) work = work
 
+no_change : (settings : Settings) (made : Result Settings Sense) → IsWork (changing settings made) → ⊥
+no_change settings (Ok made) work = by (same_settings settings made) work
+  where
+    by : (b : Bool) → IsWork (cond b (Ending good) Changing) → ⊥
+    by true never = never
+    by false never = never
+no_change settings (Err sense) work = work
+
 on_blocks : (blocks i : ℕ) (h : State) (sent : DataOut) (r : Request) → is_served (Ok r) ≡ true → IsWork (plan_asked blocks h i sent r) → IsOnBlocks r
 on_blocks blocks i h sent (Read from count fua) served work = reads from count fua
 on_blocks blocks i h sent (Write from count fua) served work = writes from count fua
@@ -65,7 +75,7 @@ on_blocks blocks i h sent (WriteAndVerify from count) served work = writes_verif
 on_blocks blocks i h sent (Verify from count) served work = verifies from count
 on_blocks blocks i h sent (SynchronizeCache from count) served work = syncs from count
 on_blocks blocks i h sent (request.ReassignBlocks list) served work = absurd (cc)
-on_blocks blocks i h sent (request.ModeSelect ten count) served work = absurd (cc)
+on_blocks blocks i h sent (request.ModeSelect ten count) served work = absurd (no_change h.settings (settings_made blocks h.settings ten count sent) work)
 on_blocks blocks i h sent request.TestUnitReady served work = absurd work
 on_blocks blocks i h sent (request.RequestSense allocation) served work = absurd work
 on_blocks blocks i h sent (request.Inquiry evpd page allocation) served work = absurd (no_answer allocation _ work)
@@ -195,7 +205,7 @@ pub begins_on : (s : Scene) (d : Server) (c : ℕ) (command : Command) (first : 
 begins_on s d c command first work none is first_is =
     let may : MayStart s d c = may_start s d c work none in
     let begins : BeginsWork (capacity s) (plan_of_start s c) (s.hist.duties c).asks (s.hist.duties c).sent (request_of command) =
-    begins_with_work s.map (capacity s) (plan_of_start s c) (s.hist.duties c).asks (s.hist.duties c).sent command (subst (IsFirst s c) first_is is) in
+    begins_with_work s.map (capacity s) s.hist.settings (plan_of_start s c) (s.hist.duties c).asks (s.hist.duties c).sent command (subst (IsFirst s c) first_is is) in
     let asked : plan_of_start s c ≡ plan_asked (capacity s) s.hist (initiator_of s.hist c) (s.hist.duties c).sent (request_of command) =
     plan_of_request (capacity s) (initiator_of s.hist c) s.hist (s.hist.duties c) (request_of command) work.fits.known.readable begins.is_for.asked
     (no_ending (plan_of_start s c) begins.work) in

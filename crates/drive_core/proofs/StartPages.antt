@@ -29,24 +29,25 @@ use Rattle.block_machine.specs.State.{State, Duty, initiator_of, owed_by}
 use Rattle.block_machine.specs.Steps.{begun, duties_done, entry_after, with_owed}
 use Rattle.block_machine.specs.Turns.{owes_nothing_now}
 use Rattle.block_machine.proofs.Booleans.{and_both}
-use Rattle.drive_core.specs.declared.answer.Ended as told_end
+use Rattle.drive_scene.specs.declared.answer.Ended as told_end
 use Rattle.drive_core.specs.declared.server.Server.{Server}
 use Rattle.drive_core.specs.declared.starting.First.TheVariants as first_variant
 use Rattle.drive_core.specs.Accepting.{Drops}
-use Rattle.drive_core.specs.Ending.{ended_of_member}
-use Rattle.drive_core.specs.Evidence.{lba, IsEndShown, page_of}
-use Rattle.drive_core.specs.GoodTurn.{WritesBlockData}
-use Rattle.drive_core.specs.Moves.{Moves, beat}
-use Rattle.drive_core.specs.Scene.{Scene, capacity, scene_after}
+use Rattle.drive_scene.specs.Ending.{ended_of_member}
+use Rattle.drive_scene.specs.Evidence.{lba, IsEndShown, page_of}
+use Rattle.drive_scene.specs.GoodTurn.{WritesBlockData}
+use Rattle.drive_scene.specs.Scene.{beat, Scene, capacity, scene_after}
+use Rattle.drive_core.specs.Moves.{Moves}
 use Rattle.drive_core.specs.Starting.{IsFirst}
-use Rattle.drive_core.proofs.Tables.{put_at-own, put_at-other}
-use Rattle.drive_core.proofs.Keyed.{find-dropped_other}
-use Rattle.drive_core.proofs.Elsewhere.{IsAlike}
-use Rattle.drive_core.proofs.Halves.{end_lawful, over_owes}
-use Rattle.drive_core.proofs.DefectPages.{defect_data-heading, defect_data-length}
-use Rattle.drive_core.proofs.FirstPlans.{IsNoEnding, plan_there, plan_unmet, same_reply-own}
-use Rattle.drive_core.proofs.Unmoved.{still_stands, none_added}
-use Rattle.drive_core.proofs.StartTurns.{BeginsWithPage, begins_with_page, IsStartOf, plan_of_start, start_lawful, start-asks, start-owes, started_state, find-started_own, find-started_other, windows, fits_ended, told_as_in}
+use Rattle.drive_scene.proofs.Tables.{put_at-own, put_at-other}
+use Rattle.drive_scene.proofs.Keyed.{find-dropped_other}
+use Rattle.drive_scene.proofs.Elsewhere.{IsAlike}
+use Rattle.drive_scene.proofs.Halves.{end_lawful, over_owes}
+use Rattle.drive_scene.proofs.DefectPages.{defect_data-heading, defect_data-length}
+use Rattle.drive_scene.proofs.FirstPlans.{IsNoEnding, plan_there, plan_unmet, same_reply-own}
+use Rattle.drive_core.proofs.Unmoved.{still_stands, none_added, standing}
+use Rattle.drive_core.proofs.StartTurns.{BeginsWithPage, begins_with_page, IsStartOf, plan_of_start, start_lawful, start-asks, start-owes, started_state, find-started_own, find-started_other, waiting_then, windows, fits_ended, told_as_in}
+use Rattle.drive_scene.proofs.Still.{good_still}
 
 -- the data that a command gives are what its plan owes, and what the drive's map has
 pub record IsOwedPage (m : DefectMap) (asks : Result Request Sense) (c : ℕ) (planned bytes : List ℕ) : Type 0 where
@@ -84,7 +85,7 @@ pub begins_to_give : (s : Scene) (d e : Server) (c : ℕ) (bytes : List ℕ) (re
     → BeginsToGive s d e c bytes reply
 begins_to_give s d e c bytes reply is first =
     let begins : BeginsWithPage s.map (plan_of_start s c) (s.hist.duties c).asks bytes reply =
-    begins_with_page s.map (capacity s) (plan_of_start s c) (s.hist.duties c).asks (s.hist.duties c).sent bytes reply first in
+    begins_with_page s.map (capacity s) s.hist.settings (plan_of_start s c) (s.hist.duties c).asks (s.hist.duties c).sent bytes reply first in
     let asked : plan_unless_refused (capacity s) s.hist (initiator_of s.hist c) (s.hist.duties c).sent (s.hist.duties c).asks ≡ Answering begins.planned reply =
     sym (plan_unmet (capacity s) (initiator_of s.hist c) s.hist (s.hist.duties c) (subst IsNoEnding (sym begins.plan_is) tt)) ∙ begins.plan_is in
     record {
@@ -128,6 +129,7 @@ module _ (s : Scene) (d e : Server) (c : ℕ) (bytes : List ℕ) (reply : Reply)
 
   alike : (q : ℕ) → q ≢ c → IsAlike s (scene_after s (beat (Work c) (Started c ∷ Page c bytes ∷ Ended c reply ∷ []) [])) q
   alike q other = record {
+    size = refl;
     map = refl;
     member = find-dropped_other (λ (m : Member). m.task.c) c q (with_started s.hist.set c) other ∙ find-started_other c q s.hist.set other;
     duty = put_at-other c q _ after.duties other ∙ (ap (λ (f : ℕ → Duty). f q) duties_then ∙ (put_at-other c q _ h.duties other
@@ -148,10 +150,10 @@ module _ (s : Scene) (d e : Server) (c : ℕ) (bytes : List ℕ) (reply : Reply)
       let moves : M (Started c ∷ Page c bytes ∷ Ended c reply ∷ []) (ended_of_member (member_of s.hist.set c) reply) = record {
         ops = [];
         added = none_added s d e is.fits is.store;
-        good = record {
+        good = good_still s (Work c) (Started c ∷ Page c bytes ∷ Ended c reply ∷ []) (standing s d e is.fits is.store) (record {
           tasks = and_both _ _ (and_both true _ refl (and_both _ _ (start_lawful s d c is.may) (and_both _ _ page_lawful (and_both _ true end_is_lawful refl))))
               (ap owes_nothing_now (over_owes (capacity s) after c reply));
-          blocks = λ none. refl;
+          blocks = refl;
           shown = (
             tt,
             (
@@ -160,15 +162,15 @@ module _ (s : Scene) (d e : Server) (c : ℕ) (bytes : List ℕ) (reply : Reply)
             ),
           );
           step = (refl, refl);
-          one_block = (lba 0, refl);
-          written = All-nil (WritesBlockData s.map);
+          on_none = λ b. refl;
+          on_one = refl;
           own = and_both _ _ (eq-eqb c c refl) (and_both _ _ (eq-eqb c c refl) (and_both _ _ (eq-eqb c c refl) refl));
-          window = windows s d e c is (Started c ∷ Page c bytes ∷ Ended c reply ∷ []);
-          held = λ q below about. absurd (cc);
-          stands = still_stands s d e is.fits is.store;
-        };
-        fits = fits_ended s d e c is (Started c ∷ Page c bytes ∷ Ended c reply ∷ []) t.hist.duties t.windows t.settings t.recovered alike
-            (windows s d e c is (Started c ∷ Page c bytes ∷ Ended c reply ∷ [])) set_is drops;
+          order = refl;
+          windows = windows s d e c is (Started c ∷ Page c bytes ∷ Ended c reply ∷ []);
+          unchanged = refl;
+        });
+        fits = fits_ended s d e c is t.hist.settings t.hist.waiting (sym is.fits.known.settings) (waiting_then s c) (Started c ∷ Page c bytes ∷ Ended c reply ∷ [])
+            t.hist.duties t.windows t.settings t.recovered alike (windows s d e c is (Started c ∷ Page c bytes ∷ Ended c reply ∷ [])) set_is drops;
         counted = omega (arith, is.arrived);
         ended = refl;
       } in

@@ -10,7 +10,7 @@ use Rattle.task_set.specs.declared.member.Member.{Member}
 use Rattle.task_set.specs.Members.{IsIn, member_of, with_started, started_at, without, first_forbidding}
 use Rattle.cdb_reader.specs.declared.plan.Plan.{Plan}
 use Rattle.cdb_reader.specs.declared.command.Command.{Command}
-use Rattle.cdb_reader.specs.declared.plan.Plan.TheVariants.{Ending, Answering, Over}
+use Rattle.cdb_reader.specs.declared.plan.Plan.TheVariants.{Ending, Answering, Changing, Over}
 use Rattle.cdb_reader.specs.declared.plan.Deed.TheVariants as deed
 use Rattle.cdb_reader.specs.Plan.{next, unless_empty}
 use Rattle.cdb_reader.specs.Read.{read_of}
@@ -23,7 +23,7 @@ use Rattle.history_replay.specs.Warning.{KnownWait, waiting_state}
 use Rattle.history_replay.proofs.KnownWaiting.{known_after}
 use Rattle.drive_core.specs.declared.starting.First.{First}
 use Rattle.drive_core.specs.declared.starting.First.TheVariants as first_variant
-use Rattle.drive_core.specs.Starting.{IsWorkFor, BeginsBy, IsFirstBy, IsFirst}
+use Rattle.drive_core.specs.Starting.{IsWorkFor, IsSelected, BeginsBy, IsFirstBy, IsFirst}
 use Rattle.read_recovery.specs.Stages as progress
 use Rattle.mode_pages.specs.declared.settings.Settings.{Settings}
 use Rattle.history_replay.specs.declared.known.Known.{Known}
@@ -47,31 +47,34 @@ use Rattle.block_machine.specs.Turns.{owes_nothing_now}
 use Rattle.block_machine.proofs.Booleans.{and_both}
 use Rattle.drive_core.specs.declared.accepted.Accepted.{Accepted}
 use Rattle.drive_core.specs.declared.server.Server.{Server}
-use Rattle.drive_core.specs.declared.answer.TurnAnswer.TheVariants as answer
-use Rattle.drive_core.specs.declared.answer.Ended as told_end
-use Rattle.drive_core.specs.Ending.{ended_of_member}
-use Rattle.drive_core.specs.Evidence.{lba, IsEndShown, page_of}
-use Rattle.drive_core.specs.GoodTurn.{WritesBlockData}
+use Rattle.drive_scene.specs.declared.answer.TurnAnswer.TheVariants as answer
+use Rattle.drive_scene.specs.declared.answer.Ended as told_end
+use Rattle.drive_scene.specs.Ending.{ended_of_member}
+use Rattle.drive_scene.specs.Evidence.{lba, IsEndShown, page_of}
+use Rattle.drive_scene.specs.GoodTurn.{WritesBlockData}
 use Rattle.drive_core.specs.Served.{is_served, is_served_plan}
 use Rattle.command_engine.specs.Need.{end_of}
-use Rattle.drive_core.specs.Scene.{Scene, capacity, scene_after, window_after}
-use Rattle.drive_core.specs.Able.{refusal_of_work, held_by_other, work_refused}
-use Rattle.drive_core.specs.Holds.{held_block, held_by_plan, needed_block}
+use Rattle.drive_scene.specs.Scene.{Scene, capacity, scene_after, window_after, beat}
+use Rattle.drive_scene.specs.Able.{refusal_of_work, held_by_other, work_refused}
+use Rattle.drive_scene.specs.Holds.{held_block, held_by_plan, needed_block}
 use Rattle.drive_core.specs.Accepting.{accepted_of, under_way, Replaces, Drops}
-use Rattle.drive_core.specs.Commands.{View, view, IsStaged, IsCommand, IsUnderWay, IsWaiting, IsWorking, IsAtBlock, IsOwnRange}
+use Rattle.drive_scene.specs.View.{View, view}
+use Rattle.drive_core.specs.Commands.{IsStaged, IsCommand, IsUnderWay, IsWaiting, IsWorking, IsAtBlock, IsOwnRange}
 use Rattle.drive_core.specs.Fits.{Fits, IsCached, KnowsHistory}
-use Rattle.drive_core.specs.Moves.{Moves, MayWork, beat}
-use Rattle.drive_core.proofs.Tables.{put_at-own, put_at-other}
-use Rattle.drive_core.proofs.Keyed.{find-dropped_own, find-dropped_other}
-use Rattle.drive_core.proofs.Elsewhere.{IsAlike, held-alike, staged-alike, all_staged}
-use Rattle.drive_core.proofs.Apart.{held_out, apart_none}
-use Rattle.drive_core.proofs.Halves.{end_lawful, over_owes}
-use Rattle.drive_core.proofs.Windows.{windows_work}
+use Rattle.drive_core.specs.Moves.{Moves, MayWork}
+use Rattle.drive_scene.proofs.Tables.{put_at-own, put_at-other}
+use Rattle.drive_scene.proofs.Keyed.{find-dropped_own, find-dropped_other}
+use Rattle.drive_scene.proofs.Elsewhere.{IsAlike, held-alike}
+use Rattle.drive_core.proofs.Elsewhere.{staged-alike, all_staged}
+use Rattle.drive_scene.proofs.Apart.{held_out, apart_none}
+use Rattle.drive_scene.proofs.Halves.{end_lawful, over_owes}
+use Rattle.drive_scene.proofs.Windows.{windows_work}
 use Rattle.drive_core.proofs.Parts.{cached_got, quiet_got}
-use Rattle.drive_core.proofs.Fitting.{known-told}
-use Rattle.drive_core.proofs.Unmoved.{still_stands, has_same, none_added}
-use Rattle.drive_core.proofs.GetTurns.{begun-duty}
-use Rattle.drive_core.proofs.FirstPlans.{IsNoEnding, same_reply-own}
+use Rattle.drive_core.proofs.Fitting.{known-told, retry-known}
+use Rattle.drive_core.proofs.Unmoved.{still_stands, has_same, none_added, standing}
+use Rattle.drive_scene.proofs.GetTurns.{begun-duty}
+use Rattle.drive_scene.proofs.FirstPlans.{IsNoEnding, same_reply-own}
+use Rattle.drive_scene.proofs.Still.{good_still}
 
 -- a command that may start
 pub record MayStart (s : Scene) (d : Server) (c : ℕ) : Type 0 where
@@ -170,13 +173,39 @@ start-owes s c m is_in =
 abbrev pub waiting_told : Scene → ℕ → Waiting
 waiting_told s c = waiting_at_start s.hist.waiting (initiator_of s.hist c) (s.hist.duties c)
 
--- what a start leaves as it was, but for the attention that it tells
-pub record IsStartOf (s : Scene) (d e : Server) (c : ℕ) : Type 0 where
+-- what a command's first turn leaves as it was, but for the mode values and the attentions that wait
+pub record IsBegun (s : Scene) (d e : Server) (c : ℕ) (settings : Settings) (waiting : Waiting) : Type 0 where
   pub fits : Fits s d
   pub may : MayStart s d c
   pub store : e.store ≡ d.store
   pub arrived : e.arrived ≡ d.arrived
-  pub known : e.known ≡ record d.known { waiting = waiting_told s c }
+  pub known : e.known ≡ record d.known { settings = settings; waiting = waiting }
+  pub few : settings.retry ≤ 20
+  pub warned : KnownWait waiting
+
+-- a start leaves all as it was, but for the attention that it tells
+abbrev pub IsStartOf : Scene → Server → Server → ℕ → Type 0
+IsStartOf s d e c = IsBegun s d e c d.known.settings (waiting_told s c)
+
+-- the attentions that wait after it are known ones
+pub told-warned : (s : Scene) (d : Server) (c : ℕ) → Fits s d → KnownWait (waiting_told s c)
+told-warned s d c fits = known_after (Work c) s.hist (Started c) (subst (λ (w : Waiting). KnownWait w) fits.known.waiting fits.known.warned)
+
+pub start_of : (s : Scene) (d e : Server) (c : ℕ) → Fits s d → MayStart s d c → e.store ≡ d.store → e.arrived ≡ d.arrived
+    → e.known ≡ record d.known { waiting = waiting_told s c } → IsStartOf s d e c
+start_of s d e c fits may store arrived known = record {
+  fits = fits;
+  may = may;
+  store = store;
+  arrived = arrived;
+  known = known;
+  few = retry-known s d.known fits.known;
+  warned = told-warned s d c fits;
+}
+
+-- they are the history's
+pub waiting_then : (s : Scene) (c : ℕ) → (started_state s c).waiting ≡ waiting_told s c
+waiting_then s c = ap (λ (x : Duty). waiting_at_start s.hist.waiting (initiator_of s.hist c) x) (begun-duty s.hist c)
 
 pub start_lawful : (s : Scene) (d : Server) (c : ℕ) → MayStart s d c → entry_lawful (capacity s) (Work c) (begun s.hist (Work c)) (Started c) ≡ true
 start_lawful s d c may =
@@ -184,54 +213,52 @@ start_lawful s d c may =
     (ap (λ (o : Option Member). option_map_or (λ (m : Member). not m.started && is_none (first_forbidding s.hist.set m.task)) o false) may.is_in
     ∙ and_both (not may.m.started) (is_none (first_forbidding s.hist.set may.m.task)) (ap not may.waiting.started) (ap is_none may.free))
 
--- the scene after a turn in which a command started and ended, with what each command has then
-abbrev pub ended_scene : Scene → ℕ → List Entry → (ℕ → Duty) → (ℕ → List Op) → (ℕ → Settings) → (ℕ → Option Recovery) → Scene
-ended_scene s c entries duties each_window settings recovered = record {
+-- the scene after a turn in which a command started and ended, with the mode values and the attentions that wait then, and with
+-- what each command has
+abbrev pub ended_scene : Scene → ℕ → Settings → Waiting → List Entry → (ℕ → Duty) → (ℕ → List Op) → (ℕ → Settings) → (ℕ → Option Recovery) → Scene
+ended_scene s c settings waiting entries duties each_window each_settings recovered = record {
+  size = s.size;
   map = s.map;
   ops = s.ops ++ [];
-  hist = record s.hist {
-    set = without (with_started s.hist.set c) c;
-    duties = duties;
-    waiting = waiting_at_start s.hist.waiting (initiator_of s.hist c) ((begun s.hist (Work c)).duties c);
-  };
+  hist = record s.hist { set = without (with_started s.hist.set c) c; duties = duties; settings = settings; waiting = waiting };
   windows = each_window;
-  settings = settings;
+  settings = each_settings;
   recovered = recovered;
   since = s.since ++ [];
   entries = s.entries ++ entries;
 }
 
-module _ (s : Scene) (d e : Server) (c : ℕ) (is : IsStartOf s d e c) where
-  cached : (t : Scene) (more : List Entry) → t.map ≡ s.map → t.ops ≡ s.ops ++ [] → t.since ≡ s.since ++ [] → t.entries ≡ s.entries ++ more
+module _ (s : Scene) (d e : Server) (c : ℕ) {settings : Settings} {waiting : Waiting} (is : IsBegun s d e c settings waiting) where
+  cached : (t : Scene) (more : List Entry) → t.size ≡ s.size → t.map ≡ s.map → t.ops ≡ s.ops ++ [] → t.since ≡ s.since ++ [] → t.entries ≡ s.entries ++ more
       → t.hist.dirty ≡ s.hist.dirty → t.hist.blocks ≡ s.hist.blocks → IsCached t e.store.cache
-  cached t more map_is ops_is since_is entries_is order blocks_are =
+  cached t more size_is map_is ops_is since_is entries_is order blocks_are =
       subst (λ (y : Contained). IsCached t y.cache) (sym is.store)
-      (cached_got s t d.store.cache (quiet_got s t more map_is ops_is since_is entries_is order blocks_are) is.fits.cached)
+      (cached_got s t d.store.cache (quiet_got s t more size_is map_is ops_is since_is entries_is order blocks_are) is.fits.cached)
 
-  -- the attentions that wait are the history's
-  knows : (t : Scene) → t.map ≡ s.map → t.hist.settings ≡ s.hist.settings → t.hist.waiting ≡ waiting_at_start s.hist.waiting (initiator_of s.hist c) ((begun s.hist (Work c)).duties c)
-      → t.hist.corrupt ≡ s.hist.corrupt → t.hist.scan ≡ s.hist.scan → KnowsHistory t e.known
-  knows t map_is settings waiting corrupt scan =
-      let told : t.hist.waiting ≡ waiting_told s c = waiting ∙ ap (λ (x : Duty). waiting_at_start s.hist.waiting (initiator_of s.hist c) x) (begun-duty s.hist c) in
-      let warned : KnownWait s.hist.waiting = subst (λ (w : Waiting). KnownWait w) is.fits.known.waiting is.fits.known.warned in
+  -- the mode values and the attentions that wait are the history's
+  knows : (t : Scene) → t.size ≡ s.size → t.hist.settings ≡ settings → t.hist.waiting ≡ waiting → t.hist.corrupt ≡ s.hist.corrupt → t.hist.scan ≡ s.hist.scan
+      → KnowsHistory t e.known
+  knows t size_is holds waits corrupt scan =
       subst (λ (k : Known). KnowsHistory t k) (sym is.known)
-      (known-told s t d.known (waiting_told s c) map_is settings told (known_after (Work c) s.hist (Started c) warned) corrupt scan is.fits.known)
+      (known-told s t d.known settings waiting size_is holds is.few waits is.warned corrupt scan is.fits.known)
 
   pub windows : (entries : List Entry) (q : ℕ) → length ((scene_after s (beat (Work c) entries [])).windows q) ≤ 50
   windows entries = windows_work s c entries [] (omega (arith, ap length is.may.waiting.window)) is.fits.windows refl
 
   -- the parts of the drive after the command started and ended
-  pub fits_ended : (entries : List Entry) (duties : ℕ → Duty) (each_window : ℕ → List Op) (settings : ℕ → Settings) (recovered : ℕ → Option Recovery)
-      → ((q : ℕ) → q ≢ c → IsAlike s (ended_scene s c entries duties each_window settings recovered) q) → ((q : ℕ) → length (each_window q) ≤ 50)
+  pub fits_ended : (hold : Settings) (wait : Waiting) → hold ≡ settings → wait ≡ waiting
+      → (entries : List Entry) (duties : ℕ → Duty) (each_window : ℕ → List Op) (each_settings : ℕ → Settings) (recovered : ℕ → Option Recovery)
+      → ((q : ℕ) → q ≢ c → IsAlike s (ended_scene s c hold wait entries duties each_window each_settings recovered) q) → ((q : ℕ) → length (each_window q) ≤ 50)
       → e.set ≡ without (with_started d.set c) c → Drops d.commands.items e.commands.items c
-      → Fits (ended_scene s c entries duties each_window settings recovered) e
-  fits_ended entries duties each_window settings recovered alike short set_is drops =
-      let t : Scene = ended_scene s c entries duties each_window settings recovered in
+      → Fits (ended_scene s c hold wait entries duties each_window each_settings recovered) e
+  fits_ended hold wait holds waits entries duties each_window each_settings recovered alike short set_is drops =
+      let t : Scene = ended_scene s c hold wait entries duties each_window each_settings recovered in
       let gone : member_of t.hist.set c ≡ None = find-dropped_own (λ (m : Member). m.task.c) c (with_started s.hist.set c) in
       record {
+        size = is.fits.size;
         store = has_same s d e is.fits is.store t refl refl;
-        cached = cached t entries refl refl refl refl refl refl;
-        known = knows t refl refl refl refl refl;
+        cached = cached t entries refl refl refl refl refl refl refl;
+        known = knows t refl holds waits refl refl;
         tasks = record {
           set = set_is ∙ ap (λ (ms : List Member). without (with_started ms c) c) is.fits.tasks.set;
           arrived = is.arrived ∙ is.fits.tasks.arrived;
@@ -254,6 +281,7 @@ module _ (s : Scene) (d e : Server) (c : ℕ) (is : IsStartOf s d e c) where
       ∙ (ap (λ (o : Option Member). ended_of_member o reply) (find-started_own c s.hist.set is.may.m is.may.is_in)
       ∙ sym (ap (λ (o : Option Member). ended_of_member o reply) is.may.is_in)))
 
+module _ (s : Scene) (d e : Server) (c : ℕ) (is : IsStartOf s d e c) where
   -- it ends at once
   pub starts_and_ends : (reply : Reply) (entries : List Entry) (told : Option told_end.Ended) → plan_of_start s c ≡ Ending reply
       → e.set ≡ without (with_started d.set c) c → Drops d.commands.items e.commands.items c → entries ≡ Started c ∷ Ended c reply ∷ []
@@ -266,6 +294,7 @@ module _ (s : Scene) (d e : Server) (c : ℕ) (is : IsStartOf s d e c) where
       let may_end : next (Ending reply) (deed.Ended reply (names_dirty h reply)) ≡ Some Over = ap (λ (b : Bool). cond b (Some Over) None) (same_reply-own reply) in
       let last : entry_lawful (capacity s) (Work c) h (Ended c reply) ≡ true = end_lawful (capacity s) h c (Ending reply) Over reply owes may_end refl in
       let alike : (q : ℕ) → q ≢ c → IsAlike s t q = λ q other. record {
+        size = refl;
         map = refl;
         member = find-dropped_other (λ (m : Member). m.task.c) c q (with_started s.hist.set c) other ∙ find-started_other c q s.hist.set other;
         duty = put_at-other c q _ h.duties other ∙ (put_at-other c q _ (begun s.hist (Work c)).duties other ∙ put_at-other c q _ s.hist.duties other);
@@ -278,24 +307,25 @@ module _ (s : Scene) (d e : Server) (c : ℕ) (is : IsStartOf s d e c) where
       let moves : M (Started c ∷ Ended c reply ∷ []) (ended_of_member (member_of s.hist.set c) reply) = record {
         ops = [];
         added = none_added s d e is.fits is.store;
-        good = record {
+        good = good_still s (Work c) (Started c ∷ Ended c reply ∷ []) (standing s d e is.fits is.store) (record {
           tasks = and_both _ _ (and_both true _ refl (and_both _ _ (start_lawful s d c is.may) (and_both _ true last refl)))
               (ap owes_nothing_now (over_owes (capacity s) h c reply));
-          blocks = λ none. refl;
+          blocks = refl;
           shown = (tt, (subst (λ (o : Option Plan). IsEndShown s (beat (Work c) (Started c ∷ Ended c reply ∷ []) []) c o reply) (sym owes) tt, tt));
           step = (refl, refl);
-          one_block = (lba 0, refl);
-          written = All-nil (WritesBlockData s.map);
+          on_none = λ b. refl;
+          on_one = refl;
           own = and_both _ _ (eq-eqb c c refl) (and_both _ _ (eq-eqb c c refl) refl);
-          window = windows (Started c ∷ Ended c reply ∷ []);
-          held = λ q below about. absurd (cc);
-          stands = still_stands s d e is.fits is.store;
-        };
-        fits = fits_ended (Started c ∷ Ended c reply ∷ []) t.hist.duties t.windows t.settings t.recovered alike (windows (Started c ∷ Ended c reply ∷ [])) set_is drops;
+          order = refl;
+          windows = windows s d e c is (Started c ∷ Ended c reply ∷ []);
+          unchanged = refl;
+        });
+        fits = fits_ended s d e c is t.hist.settings t.hist.waiting (sym is.fits.known.settings) (waiting_then s c) (Started c ∷ Ended c reply ∷ [])
+            t.hist.duties t.windows t.settings t.recovered alike (windows s d e c is (Started c ∷ Ended c reply ∷ [])) set_is drops;
         counted = omega (arith, is.arrived);
         ended = refl;
       } in
-      subst (λ (o : Option told_end.Ended). M entries o) (sym (told_as_in reply told told_is))
+      subst (λ (o : Option told_end.Ended). M entries o) (sym (told_as_in s d e c is reply told told_is))
       (subst (λ (es : List Entry). M es (ended_of_member (member_of s.hist.set c) reply)) (sym entries_are) moves)
 
   -- it begins to work on blocks
@@ -333,6 +363,7 @@ module _ (s : Scene) (d e : Server) (c : ℕ) (is : IsStartOf s d e c) where
         under_way = subst (λ (x : Course). IsWorking (view t c) (record is.may.m { started = true }) x) (sym w_is) working;
       } in
       let alike : (q : ℕ) → q ≢ c → IsAlike s t q = λ q other. record {
+        size = refl;
         map = refl;
         member = find-started_other c q s.hist.set other;
         duty = put_at-other c q _ (begun s.hist (Work c)).duties other ∙ put_at-other c q _ s.hist.duties other;
@@ -345,22 +376,23 @@ module _ (s : Scene) (d e : Server) (c : ℕ) (is : IsStartOf s d e c) where
       let moves : M (Started c ∷ []) None = record {
         ops = [];
         added = none_added s d e is.fits is.store;
-        good = record {
+        good = good_still s (Work c) (Started c ∷ []) (standing s d e is.fits is.store) (record {
           tasks = and_both _ _ (and_both true _ refl (and_both _ true (start_lawful s d c is.may) refl)) (ap owes_nothing_now owes ∙ settled);
-          blocks = λ none. refl;
+          blocks = refl;
           shown = (tt, tt);
           step = (refl, refl);
-          one_block = (lba 0, refl);
-          written = All-nil (WritesBlockData s.map);
+          on_none = λ b. refl;
+          on_one = refl;
           own = and_both _ _ (eq-eqb c c refl) refl;
-          window = windows (Started c ∷ []);
-          held = λ q below about. absurd (cc);
-          stands = still_stands s d e is.fits is.store;
-        };
+          order = refl;
+          windows = windows s d e c is (Started c ∷ []);
+          unchanged = refl;
+        });
         fits = record {
+          size = is.fits.size;
           store = has_same s d e is.fits is.store t refl refl;
-          cached = cached t (Started c ∷ []) refl refl refl refl refl refl;
-          known = knows t refl refl refl refl refl;
+          cached = cached s d e c is t (Started c ∷ []) refl refl refl refl refl refl refl;
+          known = knows s d e c is t refl (sym is.fits.known.settings) (waiting_then s c) refl refl;
           tasks = record {
             set = set_is ∙ ap (λ (ms : List Member). with_started ms c) is.fits.tasks.set;
             arrived = is.arrived ∙ is.fits.tasks.arrived;
@@ -371,7 +403,7 @@ module _ (s : Scene) (d e : Server) (c : ℕ) (is : IsStartOf s d e c) where
               (λ q other. staged-alike s t q (accepted_of d.commands.items q) (accepted_of e.commands.items q) (alike q other)
               (replaces.others q other) (is.fits.staged q));
           apart = apart_none s t c is.fits.apart (λ q other. held-alike s t q (alike q other)) held;
-          windows = windows (Started c ∷ []);
+          windows = windows s d e c is (Started c ∷ []);
           stands = still_stands s d e is.fits is.store;
         };
         counted = omega (arith, is.arrived);
@@ -380,35 +412,43 @@ module _ (s : Scene) (d e : Server) (c : ℕ) (is : IsStartOf s d e c) where
       subst (λ (o : Option told_end.Ended). M entries o) (sym told_is) (subst (λ (es : List Entry). M es None) (sym entries_are) moves)
 
 -- a plan that begins with a reply, one that begins with data, and one that begins with work
-pub begins_with_reply : (m : DefectMap) (blocks : ℕ) (plan : Plan) (asks : Result Request Sense) (sent : DataOut) (given : Reply)
-    → BeginsBy m blocks plan asks sent (first_variant.Reply given) → plan ≡ Ending given
-begins_with_reply m blocks (Ending reply) asks sent given is = ap Ending (sym is)
-begins_with_reply m blocks other asks sent given is = absurd is
+pub begins_with_reply : (m : DefectMap) (blocks : ℕ) (settings : Settings) (plan : Plan) (asks : Result Request Sense) (sent : DataOut) (given : Reply)
+    → BeginsBy m blocks settings plan asks sent (first_variant.Reply given) → plan ≡ Ending given
+begins_with_reply m blocks settings (Ending reply) asks sent given is = ap Ending (sym is)
+begins_with_reply m blocks settings other asks sent given is = absurd is
 
 pub record BeginsWithPage (m : DefectMap) (plan : Plan) (asks : Result Request Sense) (bytes : List ℕ) (given : Reply) : Type 0 where
   pub planned : List ℕ
   pub plan_is : plan ≡ Answering planned given
   pub page_is : bytes ≡ page_of m asks planned
 
-pub begins_with_page : (m : DefectMap) (blocks : ℕ) (plan : Plan) (asks : Result Request Sense) (sent : DataOut) (bytes : List ℕ) (given : Reply)
-    → BeginsBy m blocks plan asks sent (first_variant.Page bytes given) → BeginsWithPage m plan asks bytes given
-begins_with_page m blocks (Answering planned reply) asks sent bytes given is = record { planned = planned; plan_is = ap (Answering planned) (sym is.1); page_is = is.0 }
-begins_with_page m blocks other asks sent bytes given is = absurd is
+pub begins_with_page : (m : DefectMap) (blocks : ℕ) (settings : Settings) (plan : Plan) (asks : Result Request Sense) (sent : DataOut) (bytes : List ℕ) (given : Reply)
+    → BeginsBy m blocks settings plan asks sent (first_variant.Page bytes given) → BeginsWithPage m plan asks bytes given
+begins_with_page m blocks settings (Answering planned reply) asks sent bytes given is =
+    record { planned = planned; plan_is = ap (Answering planned) (sym is.1); page_is = is.0 }
+begins_with_page m blocks settings other asks sent bytes given is = absurd is
+
+pub begins_with_change : (m : DefectMap) (blocks : ℕ) (settings : Settings) (plan : Plan) (asks : Result Request Sense) (sent : DataOut) (made : Settings)
+    → BeginsBy m blocks settings plan asks sent (first_variant.Change made) → (plan ≡ Changing) × IsSelected blocks settings asks sent made
+begins_with_change m blocks settings Changing asks sent made is = (refl, is)
+begins_with_change m blocks settings other asks sent made is = absurd is
 
 abbrev pub IsWork : Plan → Type 0
 IsWork (Ending reply) = ⊥
 IsWork (Answering bytes reply) = ⊥
+IsWork Changing = ⊥
 IsWork other = Unit {0}
 
 pub record BeginsWork (blocks : ℕ) (plan : Plan) (asks : Result Request Sense) (sent : DataOut) (request : Request) : Type 0 where
   pub work : IsWork plan
   pub is_for : IsWorkFor blocks asks sent request
 
-pub begins_with_work : (m : DefectMap) (blocks : ℕ) (plan : Plan) (asks : Result Request Sense) (sent : DataOut) (command : Command)
-    → BeginsBy m blocks plan asks sent (first_variant.Work command) → BeginsWork blocks plan asks sent (request_of command)
-begins_with_work m blocks (Ending reply) asks sent command is = absurd is
-begins_with_work m blocks (Answering planned reply) asks sent command is = absurd is
-begins_with_work m blocks other asks sent command is = record { work = tt; is_for = is }
+pub begins_with_work : (m : DefectMap) (blocks : ℕ) (settings : Settings) (plan : Plan) (asks : Result Request Sense) (sent : DataOut) (command : Command)
+    → BeginsBy m blocks settings plan asks sent (first_variant.Work command) → BeginsWork blocks plan asks sent (request_of command)
+begins_with_work m blocks settings (Ending reply) asks sent command is = absurd is
+begins_with_work m blocks settings (Answering planned reply) asks sent command is = absurd is
+begins_with_work m blocks settings Changing asks sent command is = absurd is
+begins_with_work m blocks settings other asks sent command is = record { work = tt; is_for = is }
 
 pub no_ending : (plan : Plan) → IsWork plan → IsNoEnding plan
 no_ending (Ending reply) work = absurd work
@@ -439,14 +479,16 @@ first-known s d c first m a fits may in_set in_list is =
     (λ j. first_plan (size j) (state_of d.known) (i_is j) (duty_of (slice_index a.cdb 0) (read_of a.cdb a.sent d.known.capacity) a.sent))
     ∙ first-same (capacity s) (initiator_of s.hist c) (state_of d.known) s.hist (duty_of (slice_index a.cdb 0) (read_of a.cdb a.sent d.known.capacity) a.sent) (s.hist.duties c)
     fits.known.settings fits.known.waiting fits.known.corrupt fits.known.scan code asks sent in
-    let P : DefectMap → ℕ → Plan → Type 0 = λ n blocks p. BeginsBy n blocks p (s.hist.duties c).asks (s.hist.duties c).sent first in
-    let Q : Result Request Sense → DataOut → Type 0 = λ x y. BeginsBy d.store.map d.known.capacity
+    let P : DefectMap → ℕ → Settings → Plan → Type 0 = λ n blocks settings p. BeginsBy n blocks settings p (s.hist.duties c).asks (s.hist.duties c).sent first in
+    let Q : Result Request Sense → DataOut → Type 0 = λ x y. BeginsBy d.store.map d.known.capacity d.known.settings
     (first_plan d.known.capacity (state_of d.known) m.task.initiator (duty_of (slice_index a.cdb 0) (read_of a.cdb a.sent d.known.capacity) a.sent)) x y first in
     let moved : Q (s.hist.duties c).asks (s.hist.duties c).sent =
     subst (λ (y : DataOut). Q (s.hist.duties c).asks y) sent (subst (λ (x : Result Request Sense). Q x a.sent) asks is) in
-    subst (λ (n : DefectMap). P n (capacity s) (first_plan (capacity s) s.hist (initiator_of s.hist c) (s.hist.duties c))) fits.store.map
-    (subst (λ (blocks : ℕ). P d.store.map blocks (first_plan (capacity s) s.hist (initiator_of s.hist c) (s.hist.duties c))) size
-    (subst (λ (p : Plan). P d.store.map d.known.capacity p) plan moved))
+    let asked : Plan = first_plan (capacity s) s.hist (initiator_of s.hist c) (s.hist.duties c) in
+    subst (λ (n : DefectMap). P n (capacity s) s.hist.settings asked) fits.store.map
+    (subst (λ (settings : Settings). P d.store.map (capacity s) settings asked) fits.known.settings
+    (subst (λ (blocks : ℕ). P d.store.map blocks d.known.settings asked) size
+    (subst (λ (p : Plan). P d.store.map d.known.capacity d.known.settings p) plan moved)))
 
 pub in_set : (s : Scene) (d : Server) (c : ℕ) → Fits s d → (may : MayStart s d c) → member_of d.set c ≡ Some may.m
 in_set s d c fits may = ap (λ (ms : List Member). member_of ms c) fits.tasks.set ∙ may.is_in
@@ -499,7 +541,7 @@ not_empty count plan rest is work = by (eqb count 0) refl is
     by false e same = e
 
 pub few_blocks : (s : Scene) → capacity s ≤ 4096
-few_blocks s = let most = s.map.size.within_limits.greatest in omega (arith, most)
+few_blocks s = let most = s.size.within_limits.greatest in omega (arith, most)
 
 -- data out, and work begun
 pub both_replaced : (xs ys zs : List Accepted) (c : ℕ) (a : Accepted) (w : Course) → Replaces xs ys c (record a { sent = Nothing })

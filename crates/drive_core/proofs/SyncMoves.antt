@@ -31,21 +31,23 @@ use Rattle.block_machine.specs.Deeds.{names_dirty}
 use Rattle.block_machine.proofs.Booleans.{and_both, or_left}
 use Rattle.drive_core.specs.declared.accepted.Accepted.{Accepted}
 use Rattle.drive_core.specs.declared.server.Server.{Server}
-use Rattle.drive_core.specs.declared.answer.Ended as told_end
-use Rattle.drive_core.specs.Scene.{Scene, capacity, window_after}
-use Rattle.drive_core.specs.Commands.{view, IsWorking, IsCommand, IsOwnRecovery}
-use Rattle.drive_core.specs.Ending.{ended_in, ended_of_member}
-use Rattle.drive_core.specs.Evidence.{lba}
+use Rattle.drive_scene.specs.declared.answer.Ended as told_end
+use Rattle.drive_scene.specs.Scene.{Scene, capacity, window_after, beat}
+use Rattle.drive_scene.specs.View.{view}
+use Rattle.drive_core.specs.Commands.{IsWorking, IsCommand, IsOwnRecovery}
+use Rattle.drive_scene.specs.Ending.{ended_in, ended_of_member}
+use Rattle.drive_scene.specs.Evidence.{lba}
 use Rattle.drive_core.specs.Hardening.{hardened_at}
-use Rattle.drive_core.specs.Moves.{Moves, beat}
-use Rattle.drive_core.proofs.Tables.{put_at-own}
-use Rattle.drive_core.proofs.Halves.{Half}
-use Rattle.drive_core.proofs.Apart.{holds_none}
-use Rattle.drive_core.proofs.Fitting.{after_half}
+use Rattle.drive_core.specs.Moves.{Moves}
+use Rattle.drive_scene.proofs.Tables.{put_at-own}
+use Rattle.drive_scene.specs.Half.{Half}
+use Rattle.drive_scene.proofs.Apart.{holds_none}
+use Rattle.drive_scene.proofs.Elsewhere.{after_half}
 use Rattle.drive_core.proofs.Closing.{Goes, Stops}
-use Rattle.drive_core.proofs.Doing.{owed-begun, passed_owes, hardened_duty}
-use Rattle.drive_core.proofs.HardenTurns.{hardened_blocks, half_hardened}
-use Rattle.drive_core.proofs.PassTurns.{half_passed_hardened, passed_state}
+use Rattle.drive_scene.proofs.Doing.{owed-begun, passed_owes, hardened_duty}
+use Rattle.drive_scene.specs.Kinds.{hardened_blocks, passed_state}
+use Rattle.drive_scene.proofs.HardenTurns.{half_hardened}
+use Rattle.drive_scene.proofs.PassTurns.{half_passed_hardened}
 use Rattle.drive_core.proofs.HardenMoves.{IsHardenTurn, op_of, harden_on, harden_ends}
 use Rattle.drive_core.proofs.MetMoves.{met_course, owed_is}
 

@@ -32,27 +32,32 @@ use Rattle.block_machine.specs.Deeds.{names_dirty}
 use Rattle.block_machine.proofs.Booleans.{and_both}
 use Rattle.drive_core.specs.declared.accepted.Accepted.{Accepted}
 use Rattle.drive_core.specs.declared.server.Server.{Server}
-use Rattle.drive_core.specs.declared.answer.Ended as told_end
-use Rattle.drive_core.specs.Scene.{Scene, capacity}
-use Rattle.drive_core.specs.Holds.{needed_by_plan}
+use Rattle.drive_scene.specs.declared.answer.Ended as told_end
+use Rattle.drive_scene.specs.Scene.{Scene, capacity}
+use Rattle.drive_scene.specs.Holds.{needed_by_plan}
 use Rattle.drive_core.specs.Accepting.{accepted_of, under_way, Replaces}
-use Rattle.drive_core.specs.Ending.{ended_of_member}
-use Rattle.drive_core.specs.Evidence.{lba}
+use Rattle.drive_scene.specs.Ending.{ended_of_member}
+use Rattle.drive_scene.specs.Evidence.{lba}
 use Rattle.drive_core.specs.Fits.{Fits, IsCached}
 use Rattle.drive_core.specs.Hardening.{MayHardenFor, passed_to, done_before}
 use Rattle.drive_core.specs.Moves.{Moves, MayWork, Leaves}
 use Rattle.drive_core.specs.Syncing.{Needs}
-use Rattle.drive_core.proofs.Halves.{Half, ends}
-use Rattle.drive_core.proofs.Fitting.{after_end, fits_end}
+use Rattle.drive_scene.specs.Half.{Half}
+use Rattle.drive_scene.proofs.Halves.{ends}
+use Rattle.drive_scene.proofs.Elsewhere.{after_end}
+use Rattle.drive_core.proofs.Fitting.{fits_end}
 use Rattle.drive_core.proofs.Parts.{IsGotOnly, cached_got, quiet_got}
 use Rattle.drive_core.proofs.Unmoved.{has_same, none_added}
 use Rattle.drive_core.proofs.Closing.{Stops, moves_end}
 use Rattle.drive_core.proofs.FirstDirty.{IsFirstDirty, least_of_cache, first_dirty-is, none_of_cache, none_dirty-before, within_there}
 use Rattle.drive_core.proofs.MetMoves.{owed_is}
-use Rattle.drive_core.proofs.PassTurns.{half_passed, passed_state}
+use Rattle.drive_scene.specs.Kinds.{passed_state}
+use Rattle.drive_scene.proofs.PassTurns.{half_passed}
 use Rattle.drive_core.proofs.SyncMoves.{next-passed, next-synced}
 use Rattle.drive_core.proofs.TakeTurns.{GivenBy, given_by, WorksAt, works_at, StandsAt, stands_in}
 use Rattle.drive_core.proofs.Hardens.{stops_of}
+use Rattle.drive_core.proofs.Windows.{room_of}
+use Rattle.drive_scene.proofs.Still.{present_still}
 
 -- a sync that needs the next dirty block
 pub record NeedsPass (plan : Plan) (step : Step) (from to : Lba) : Type 0 where
@@ -177,9 +182,9 @@ passes_all s d mid e c from to entries reply told may needs none store set arriv
     let kept : e.store ≡ d.store = closed.0.store ∙ store in
     let t : Scene = after_end s c [] (Passed c from to ∷ []) good in
     let got : IsGotOnly s (after_end s c [] (Passed c from to ∷ []) good) =
-    quiet_got s (after_end s c [] (Passed c from to ∷ []) good) (Passed c from to ∷ Ended c good ∷ []) refl refl refl refl refl refl in
+    quiet_got s (after_end s c [] (Passed c from to ∷ []) good) (Passed c from to ∷ Ended c good ∷ []) refl refl refl refl refl refl refl in
     moves_end s c [] (Passed c from to ∷ []) entries (passed_state s c from to) (Syncing (record pass.y { at = to.0 })) d e good told half
-    (ends s c [] (Passed c from to ∷ []) (passed_state s c from to) (Syncing (record pass.y { at = to.0 })) Over good d fits half
+    (ends s c [] (Passed c from to ∷ []) (passed_state s c from to) (Syncing (record pass.y { at = to.0 })) Over good (room_of s c d fits) (present_still s fits.store.present) half
     (next-synced (record pass.y { at = to.0 }) (names_dirty (passed_state s c from to) good) to_is) refl (λ more. absurd (omega (arith, more, to_is))))
     (fits_end s c [] (Passed c from to ∷ []) (passed_state s c from to) (Syncing (record pass.y { at = to.0 })) good d e half fits stops.left
     (has_same s d e fits kept t refl refl)

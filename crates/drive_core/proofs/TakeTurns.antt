@@ -8,21 +8,20 @@ use Rattle.disk_base.specs.declared.stage.How.TheVariants.{Light}
 use Rattle.read_recovery.proofs.Table.{plain_stage}
 use Rattle.block_machine.specs.Blocks.{is_dirty}
 use Rattle.block_machine.specs.declared.entry.Entry.TheVariants.{Ended}
-use Rattle.task_set.specs.Members.{without}
+use Rattle.task_set.specs.Members.{without, member_of, first_forbidding}
 use Rattle.sector_store.specs.Maps.{MayBeRecovered}
 use Rattle.sector_store.specs.Stored.{KeepsBlocks}
 use Rattle.sector_store.specs.State.{Contained, IsStore}
 use Rattle.geometry_map.specs.Laws.{BlocksHaveOwnSectors}
-use Rattle.drive_core.specs.Ending.{ended_of_member}
+use Rattle.drive_scene.specs.Ending.{ended_of_member}
 use Rattle.drive_core.proofs.AtBlock.{at_block}
 use Rattle.drive_core.proofs.Windows.{empty_tried}
-use Rattle.drive_core.proofs.Gets.{newest_undirty}
-use Rattle.drive_core.proofs.Tries.{next_stage-at}
+use Rattle.drive_scene.proofs.Gets.{newest_undirty}
+use Rattle.drive_scene.proofs.Tries.{next_stage-at}
 use Rattle.disk_base.specs.declared.address.Lba.{Lba}
 use Rattle.disk_base.specs.declared.stage.Stage.{Stage}
 use Rattle.sense_data.specs.declared.reply.Reply.{Reply}
 use Rattle.task_set.specs.declared.member.Member.{Member}
-use Rattle.task_set.specs.Members.{member_of}
 use Rattle.read_recovery.specs.Stages.{Progress, next_stage, stages_of}
 use Rattle.write_cache.specs.Contents.{IsCache, newest}
 use Rattle.write_cache.specs.Laws.{KeepsOthers}
@@ -46,18 +45,19 @@ use Rattle.block_machine.specs.State.{owed_by}
 use Rattle.drive_core.specs.declared.accepted.Accepted.{Accepted}
 use Rattle.drive_core.specs.declared.accepted.Errand.{Errand}
 use Rattle.drive_core.specs.declared.server.Server.{Server}
-use Rattle.drive_core.specs.declared.answer.Ended as told_end
+use Rattle.drive_scene.specs.declared.answer.Ended as told_end
 use Rattle.drive_core.specs.declared.taking.Sought.{Sought}
-use Rattle.drive_core.specs.Scene.{Scene}
-use Rattle.drive_core.specs.declared.answer.TurnAnswer.TheVariants as answer
-use Rattle.drive_core.specs.declared.event.Holder.TheVariants as holder
-use Rattle.task_set.specs.Members.{first_forbidding}
-use Rattle.drive_core.specs.Holds.{holder_besides, held_by_plan, held_block, needed_by_plan, needed_block}
-use Rattle.drive_core.specs.Able.{refusal_of_work, held_by_other, work_refused}
+use Rattle.drive_scene.specs.Scene.{Scene}
+use Rattle.drive_scene.specs.declared.answer.TurnAnswer.TheVariants as answer
+use Rattle.drive_scene.specs.declared.event.Holder.{Holder}
+use Rattle.drive_scene.specs.Holds.{holder_besides, held_by_plan, held_block, needed_by_plan, needed_block}
+use Rattle.drive_scene.specs.Able.{refusal_of_work, held_by_other, work_refused}
 use Rattle.drive_core.specs.Accepting.{accepted_of, under_way, errand_of, Replaces}
-use Rattle.drive_core.specs.Evidence.{lba}
-use Rattle.drive_core.specs.Commands.{View, view, IsStaged, IsCommand, IsUnderWay, IsWorking, IsAtBlock, IsTrying}
-use Rattle.drive_core.specs.Fits.{IsPresentMap, Fits}
+use Rattle.drive_scene.specs.Evidence.{lba}
+use Rattle.drive_scene.specs.View.{View, view}
+use Rattle.drive_core.specs.Commands.{IsStaged, IsCommand, IsUnderWay, IsWorking, IsAtBlock, IsTrying}
+use Rattle.drive_scene.specs.Present.{IsPresentMap}
+use Rattle.drive_core.specs.Fits.{Fits}
 use Rattle.drive_core.specs.Moves.{Moves, MayWork, Leaves}
 use Rattle.drive_core.specs.Taking.{IsSought, value_got, got_entries, errand_for, may_be_dirty}
 use Rattle.drive_core.proofs.Closing.{Goes, Stops, present_after}
@@ -168,18 +168,18 @@ stands_in s d c w fits is =
     stands_at s c (accepted_of d.commands.items c) at.a w at.is at.works (fits.staged c)
 
 -- nobody else holds the block of a turn that isn't refused
-not_held : (s : Scene) (b : ℕ) (o : Option ℕ) → option_map (λ other. answer.Held (lba b) (holder.Command other)) o ≡ None → o ≡ None
+not_held : (s : Scene) (b : ℕ) (o : Option Holder) → option_map (λ other. answer.Held (lba b) other) o ≡ None → o ≡ None
 not_held s b None none = refl
 not_held s b (Some x) none = absurd (cc)
 
 pub free_block : (s : Scene) (c : ℕ) (m : Member) (n : ℕ) → member_of s.hist.set c ≡ Some m → m.started ≡ true → needed_block s c ≡ Some n
-    → refusal_of_work s 0 c ≡ None → holder_besides s c n ≡ None
+    → refusal_of_work s 0 c ≡ None → holder_besides s (Work c) n ≡ None
 free_block s c m n is_in started needs free =
     let refused : work_refused s c m ≡ None = sym (ap (λ (o : Option Member). option_map_or (work_refused s c) o (Some (answer.Idle 0))) is_in) ∙ free in
     let kept : option_and_then (held_by_other s c) (needed_block s c) ≡ None =
     sym (ap (λ (b : Bool). cond b (option_and_then (held_by_other s c) (needed_block s c)) (option_map answer.Dormant (first_forbidding s.hist.set m.task))) started) ∙ refused in
     let here : held_by_other s c n ≡ None = sym (ap (option_and_then (held_by_other s c)) needs) ∙ kept in
-    not_held s n (holder_besides s c n) here
+    not_held s n (holder_besides s (Work c) n) here
 
 -- the plan that a command of the set owes
 pub owed_at : (s : Scene) (c : ℕ) (w : Course) → (at : StandsAt s c w) → owed_by s.hist c ≡ Some w.plan

@@ -45,23 +45,29 @@ use Rattle.block_machine.specs.Deeds.{names_dirty}
 use Rattle.block_machine.specs.Entries.{ends_as_told}
 use Rattle.drive_core.specs.declared.accepted.Accepted.{Accepted}
 use Rattle.drive_core.specs.declared.server.Server.{Server}
-use Rattle.drive_core.specs.declared.answer.Ended as told_end
-use Rattle.drive_core.specs.Scene.{Scene, capacity, last_found}
-use Rattle.drive_core.specs.Holds.{held_by_plan, holder_besides}
-use Rattle.drive_core.specs.Evidence.{lba, IsEndShown, IsGotShown}
-use Rattle.drive_core.specs.Commands.{view, IsWorking, IsOwnRecovery}
-use Rattle.drive_core.specs.Fits.{IsPresentMap, HasOps, IsCached, Fits}
-use Rattle.drive_core.specs.Moves.{Moves, beat}
-use Rattle.drive_core.proofs.Tables.{put_at-own, put_at-other}
-use Rattle.drive_core.proofs.Gets.{is_dirty-after_get, newest-after_get}
-use Rattle.drive_core.proofs.Tries.{no_strays-before}
+use Rattle.drive_scene.specs.declared.answer.Ended as told_end
+use Rattle.drive_scene.specs.Scene.{Scene, capacity, last_found, beat}
+use Rattle.drive_scene.specs.Holds.{held_by_plan, holder_besides}
+use Rattle.drive_scene.specs.Evidence.{lba, IsEndShown, IsGotShown}
+use Rattle.drive_scene.specs.View.{view}
+use Rattle.drive_core.specs.Commands.{IsWorking, IsOwnRecovery}
+use Rattle.drive_scene.specs.Present.{IsPresentMap}
+use Rattle.drive_core.specs.Fits.{HasOps, IsCached, Fits}
+use Rattle.drive_core.specs.Moves.{Moves}
+use Rattle.drive_scene.proofs.Tables.{put_at-own, put_at-other}
+use Rattle.drive_scene.proofs.Gets.{is_dirty-after_get, newest-after_get}
+use Rattle.drive_scene.proofs.Tries.{no_strays-before}
 use Rattle.drive_core.proofs.Parts.{IsGotOnly}
-use Rattle.drive_core.proofs.Halves.{Half, goes_on, ends}
-use Rattle.drive_core.proofs.Apart.{holds_none, holds_next}
-use Rattle.drive_core.proofs.Fitting.{after_half, after_end, fits_on, fits_end}
+use Rattle.drive_scene.specs.Half.{Half}
+use Rattle.drive_scene.proofs.Halves.{goes_on, ends}
+use Rattle.drive_scene.proofs.Apart.{holds_none, holds_next}
+use Rattle.drive_scene.proofs.Elsewhere.{after_half, after_end}
+use Rattle.drive_core.proofs.Fitting.{fits_on, fits_end}
 use Rattle.drive_core.proofs.Closing.{Goes, Stops, may_end, told_report, moves_on, moves_end}
-use Rattle.drive_core.proofs.GetTurns.{AreQuietAt, half_none, half_got, got_state}
+use Rattle.drive_scene.specs.Kinds.{AreQuietAt, got_state}
+use Rattle.drive_scene.proofs.GetTurns.{half_none, half_got}
 use Rattle.drive_core.proofs.ReadTurns.{window-got, next-got, next-lost, course, recovered-is, own-recovered, staged-got, staged-none}
+use Rattle.drive_core.proofs.Windows.{room_of}
 
 -- a block and all others after a get
 at_block : {V : Type 0} (f : BlockState → V) (blocks_then : Blocks) (b : ℕ) (v : Value) → f (after_get (blocks_then b) v) ≡ f (blocks_then b)
@@ -74,9 +80,10 @@ at_block f blocks_then b v same n =
 
 -- a scene after a get, with or without the command's end
 got_only : (s t : Scene) (b : Lba) (v : Value) (ops : List Op) (more : List Entry) → AreQuietAt s b ops → IsPresentMap s.map (s.ops ++ ops)
-    → t.map ≡ s.map → t.ops ≡ s.ops ++ ops → t.since ≡ s.since ++ ops → t.entries ≡ s.entries ++ more → t.hist.dirty ≡ s.hist.dirty
+    → t.size ≡ s.size → t.map ≡ s.map → t.ops ≡ s.ops ++ ops → t.since ≡ s.since ++ ops → t.entries ≡ s.entries ++ more → t.hist.dirty ≡ s.hist.dirty
     → t.hist.blocks ≡ put_at b.0 (after_get (s.hist.blocks b.0) v) s.hist.blocks → IsGotOnly s t
-got_only s t b v ops more quiet present map_is ops_is since_is entries_is order blocks_are = record {
+got_only s t b v ops more quiet present size_is map_is ops_is since_is entries_is order blocks_are = record {
+  size = size_is;
   map = map_is;
   newest = λ n. ap (λ (bs : Blocks). blocks.newest (bs n)) blocks_are ∙ at_block blocks.newest s.hist.blocks b.0 v (newest-after_get (s.hist.blocks b.0) v) n;
   dirty = λ n. ap (λ (bs : Blocks). is_dirty (bs n)) blocks_are ∙ at_block is_dirty s.hist.blocks b.0 v (is_dirty-after_get (s.hist.blocks b.0) v) n;
@@ -91,9 +98,10 @@ got_only s t b v ops more quiet present map_is ops_is since_is entries_is order 
 
 -- a scene after a turn without an entry
 tried_only : (s t : Scene) (b : Lba) (ops : List Op) → AreQuietAt s b ops → IsPresentMap s.map (s.ops ++ ops)
-    → t.map ≡ s.map → t.ops ≡ s.ops ++ ops → t.since ≡ s.since ++ ops → t.entries ≡ s.entries ++ [] → t.hist.dirty ≡ s.hist.dirty
+    → t.size ≡ s.size → t.map ≡ s.map → t.ops ≡ s.ops ++ ops → t.since ≡ s.since ++ ops → t.entries ≡ s.entries ++ [] → t.hist.dirty ≡ s.hist.dirty
     → t.hist.blocks ≡ s.hist.blocks → IsGotOnly s t
-tried_only s t b ops quiet present map_is ops_is since_is entries_is order blocks_are = record {
+tried_only s t b ops quiet present size_is map_is ops_is since_is entries_is order blocks_are = record {
+  size = size_is;
   map = map_is;
   newest = λ n. ap (λ (bs : Blocks). blocks.newest (bs n)) blocks_are;
   dirty = λ n. ap (λ (bs : Blocks). is_dirty (bs n)) blocks_are;
@@ -111,7 +119,7 @@ pub record IsReadTurn (s : Scene) (d e : Server) (c : ℕ) (m : Member) (w : Cou
   pub fits : Fits s d
   pub is_in : member_of s.hist.set c ≡ Some m
   pub working : IsWorking (view s c) m w
-  pub free : holder_besides s c b.0 ≡ None
+  pub free : holder_besides s (Work c) b.0 ≡ None
   pub below : b.0 < capacity s
   pub quiet : AreQuietAt s b ops
   pub added : e.store.platter.ops ≡ d.store.platter.ops ++ ops
@@ -148,12 +156,12 @@ module _ (s : Scene) (c : ℕ) (m : Member) (settings : Settings) (gives : Bool)
       let got : Goes d e c (record a { work = Some (after (course s c m settings gives r p rec stage) (Got (Data bytes))) }) (Get c (lba r.at) (Data bytes) ∷ []) entries told = goes on in
       moves_on s c ops (Get c (lba r.at) (Data bytes) ∷ []) entries (got_state s c (lba r.at) (Data bytes)) (Reading (record r { at = r.at + 1; hardened = false })) d e
       (record a { work = Some (after (course s c m settings gives r p rec stage) (Got (Data bytes))) }) told half
-      (goes_on s c ops (Get c (lba r.at) (Data bytes) ∷ []) (got_state s c (lba r.at) (Data bytes)) (Reading (record r { at = r.at + 1; hardened = false })) d turn.fits half refl
+      (goes_on s c ops (Get c (lba r.at) (Data bytes) ∷ []) (got_state s c (lba r.at) (Data bytes)) (Reading (record r { at = r.at + 1; hardened = false })) (room_of s c d turn.fits) turn.present half refl
       (or_right (not (eqb (length ops) 0)) true refl))
       (fits_on s c ops (Get c (lba r.at) (Data bytes) ∷ []) (got_state s c (lba r.at) (Data bytes)) (Reading (record r { at = r.at + 1; hardened = false })) d e
       (record a { work = Some (after (course s c m settings gives r p rec stage) (Got (Data bytes))) }) half turn.fits got.set got.arrived got.known got.replaces
       (turn.has t refl refl)
-      (turn.cached t (got_only s t (lba r.at) (Data bytes) ops (Get c (lba r.at) (Data bytes) ∷ []) turn.quiet turn.present refl refl refl refl refl refl) refl refl)
+      (turn.cached t (got_only s t (lba r.at) (Data bytes) ops (Get c (lba r.at) (Data bytes) ∷ []) turn.quiet turn.present refl refl refl refl refl refl refl) refl refl)
       (staged-got s c m settings gives r p rec stage a bytes ops turn.is_in turn.working next_is left clean by (ltb-true (r.at + 1) r.end more))
       (holds_none s c (t.windows c) (Reading (record r { at = r.at + 1; hardened = false }))
       (ap (λ (w : List Op). held_by_plan w (Reading (record r { at = r.at + 1; hardened = false }))) (window-got s c m settings gives r p rec stage (Data bytes) ops))))
@@ -177,13 +185,13 @@ module _ (s : Scene) (c : ℕ) (m : Member) (settings : Settings) (gives : Bool)
         λ more. absurd (omega (arith, ltb-false (r.at + 1) r.end last)),
       ) in
       moves_end s c ops (Get c (lba r.at) (Data bytes) ∷ []) entries (got_state s c (lba r.at) (Data bytes)) (Reading (record r { at = r.at + 1; hardened = false })) d e x told half
-      (ends s c ops (Get c (lba r.at) (Data bytes) ∷ []) (got_state s c (lba r.at) (Data bytes)) (Reading (record r { at = r.at + 1; hardened = false })) Over x d turn.fits half
+      (ends s c ops (Get c (lba r.at) (Data bytes) ∷ []) (got_state s c (lba r.at) (Data bytes)) (Reading (record r { at = r.at + 1; hardened = false })) Over x (room_of s c d turn.fits) turn.present half
       (may_end (after (course s c m settings gives r p rec stage) (Got (Data bytes))) x (names_dirty (got_state s c (lba r.at) (Data bytes)) x) turn.law course_is
       (sym reply_is ∙ over) (λ never. absurd (cc)) refl)
       told_so shown_so)
       (fits_end s c ops (Get c (lba r.at) (Data bytes) ∷ []) (got_state s c (lba r.at) (Data bytes)) (Reading (record r { at = r.at + 1; hardened = false })) x d e half turn.fits ended.left
       (turn.has t refl refl)
-      (turn.cached t (got_only s t (lba r.at) (Data bytes) ops (Get c (lba r.at) (Data bytes) ∷ Ended c x ∷ []) turn.quiet turn.present refl refl refl refl refl refl) refl refl))
+      (turn.cached t (got_only s t (lba r.at) (Data bytes) ops (Get c (lba r.at) (Data bytes) ∷ Ended c x ∷ []) turn.quiet turn.present refl refl refl refl refl refl refl) refl refl))
       ended turn.fits turn.added refl)
       (cases_Bool (ltb (r.at + 1) r.end))
 
@@ -216,10 +224,10 @@ module _ (s : Scene) (c : ℕ) (m : Member) (settings : Settings) (gives : Bool)
       (sym reply_is ∙ over) (never_dirty (after (course s c m settings gives r p rec stage) answer).plan (after (course s c m settings gives r p rec stage) answer).step _ plan_is)
       (subst (λ (q : Plan). with_page [] q ≡ q) (sym plan_is) refl)) in
       moves_end s c ops (Get c (lba r.at) Lost ∷ []) entries (got_state s c (lba r.at) Lost) (Unread r.at) d e (unrecovered_read r.at) told half
-      (ends s c ops (Get c (lba r.at) Lost ∷ []) (got_state s c (lba r.at) Lost) (Unread r.at) Over (unrecovered_read r.at) d turn.fits half may refl tt)
+      (ends s c ops (Get c (lba r.at) Lost ∷ []) (got_state s c (lba r.at) Lost) (Unread r.at) Over (unrecovered_read r.at) (room_of s c d turn.fits) turn.present half may refl tt)
       (fits_end s c ops (Get c (lba r.at) Lost ∷ []) (got_state s c (lba r.at) Lost) (Unread r.at) (unrecovered_read r.at) d e half turn.fits ended.left
       (turn.has t refl refl)
-      (turn.cached t (got_only s t (lba r.at) Lost ops (Get c (lba r.at) Lost ∷ Ended c (unrecovered_read r.at) ∷ []) turn.quiet turn.present refl refl refl refl refl refl) refl refl))
+      (turn.cached t (got_only s t (lba r.at) Lost ops (Get c (lba r.at) Lost ∷ Ended c (unrecovered_read r.at) ∷ []) turn.quiet turn.present refl refl refl refl refl refl refl) refl refl))
       ended turn.fits turn.added refl
 
   -- the stage found nothing, and another is left
@@ -240,10 +248,10 @@ module _ (s : Scene) (c : ℕ) (m : Member) (settings : Settings) (gives : Bool)
       let t : Scene = after_half s c (try_of before (place_of s.map (lba r.at)) stage None) [] in
       let got : Goes d e c (record a { work = Some (after (course s c m settings gives r p rec stage) Missed) }) [] entries told = goes on in
       moves_on s c ops [] entries (steps.begun s.hist (Work c)) (Reading r) d e (record a { work = Some (after (course s c m settings gives r p rec stage) Missed) }) told half
-      (goes_on s c ops [] (steps.begun s.hist (Work c)) (Reading r) d turn.fits half refl refl)
+      (goes_on s c ops [] (steps.begun s.hist (Work c)) (Reading r) (room_of s c d turn.fits) turn.present half refl refl)
       (fits_on s c ops [] (steps.begun s.hist (Work c)) (Reading r) d e (record a { work = Some (after (course s c m settings gives r p rec stage) Missed) }) half turn.fits
       got.set got.arrived got.known got.replaces (turn.has t refl refl)
-      (turn.cached t (tried_only s t (lba r.at) ops turn.quiet turn.present refl refl refl refl refl refl) refl refl)
+      (turn.cached t (tried_only s t (lba r.at) ops turn.quiet turn.present refl refl refl refl refl refl refl) refl refl)
       (staged-none s c m settings gives r p rec stage a before turn.is_in turn.working next_is undirty one_left)
       (holds_next s c (t.windows c) r turn.free))
       got turn.added refl

@@ -22,10 +22,11 @@ use Rattle.block_machine.proofs.Booleans.{and_both}
 use Rattle.drive_core.specs.declared.accepted.Errand.{Errand}
 use Rattle.drive_core.specs.declared.server.Server.{Server}
 use Rattle.drive_core.specs.declared.taking.Sought.{Sought}
-use Rattle.drive_core.specs.Scene.{Scene}
-use Rattle.drive_core.specs.Holds.{held_block, held_by_plan, needed_by_plan}
+use Rattle.drive_scene.specs.Scene.{Scene}
+use Rattle.drive_scene.specs.Holds.{held_block, held_by_plan, needed_by_plan}
 use Rattle.drive_core.specs.Accepting.{under_way, errand_of}
-use Rattle.drive_core.specs.Commands.{view, IsAtBlock, IsTrying}
+use Rattle.drive_scene.specs.View.{view}
+use Rattle.drive_core.specs.Commands.{IsAtBlock, IsTrying}
 use Rattle.drive_core.specs.Hardening.{MayHardenFor, done_before}
 use Rattle.drive_core.specs.Moves.{MayWork}
 use Rattle.drive_core.specs.Taking.{errand_for}

@@ -1,29 +1,26 @@
--- How long windows become.
-use Rattle.std.proofs.Common.{◌≡◌, ℕ, zero, suc, ◌+◌, ◌*◌, ◌<◌, ◌≤◌, Bool, true, false, true≢false, cond, eqb, List, [], ◌∷◌, ◌++◌, length, Option, Some, None, refl, sym, ap, ◌∙◌, subst, arith, length-append, ⊎_elim}
+-- How long the windows of the commands in a drive are.
+use Rattle.std.proofs.Common.{◌≡◌, ℕ, zero, suc, ◌+◌, ◌*◌, ◌<◌, ◌≤◌, true, true≢false, eqb, length, Option, Some, None, refl, sym, ap, ◌∙◌, subst, arith, ⊎_elim}
 use Rattle.std.specs.Prelude.{slice_get}
-use Rattle.std.specs.List.{list_any}
 use Rattle.std.specs.Option.{is_some}
-use Rattle.std.proofs.lemmas.Bool.{cases_eq, cases_lt, ne_eqb}
+use Rattle.std.proofs.lemmas.Bool.{cases_lt, ne_eqb}
 use Rattle.disk_base.specs.declared.stage.Stage.{Stage}
 use Rattle.mode_pages.specs.declared.settings.Settings.{Settings}
-use Rattle.platter_model.specs.declared.op.Op.{Op}
-use Rattle.platter_model.specs.declared.op.Op.TheVariants.{Fetched, Tried, Torn, Cut}
 use Rattle.read_recovery.specs.Stages.{Progress, stages_of, next_stage}
 use Rattle.read_recovery.proofs.Table.{past_table}
 use Rattle.cdb_reader.specs.declared.plan.Plan.{Plan}
 use Rattle.command_engine.specs.declared.step.Step.{Step}
 use Rattle.command_engine.specs.Course.{Course}
 use Rattle.task_set.specs.declared.member.Member.{Member}
-use Rattle.block_machine.specs.declared.entry.Entry.{Entry}
-use Rattle.block_machine.specs.declared.turn.Label.TheVariants.{Work}
 use Rattle.drive_core.specs.declared.accepted.Accepted.{Accepted}
-use Rattle.drive_core.specs.Scene.{Scene, scene_after, opens_window, window_after}
-use Rattle.drive_core.specs.GoodTurn.{is_one_step}
-use Rattle.drive_core.specs.Commands.{View, IsAtBlock, IsUnderWay, IsStaged}
-use Rattle.drive_core.specs.Moves.{beat}
+use Rattle.drive_scene.specs.Scene.{Scene}
+use Rattle.drive_scene.specs.View.{View, view}
+use Rattle.drive_core.specs.Commands.{IsAtBlock, IsUnderWay, IsStaged}
 use Rattle.drive_core.proofs.AtBlock.{at_block}
-use Rattle.drive_core.proofs.Tables.{put_at-own, put_at-other}
-use Rattle.drive_core.proofs.Tries.{next_stage-at}
+use Rattle.drive_scene.proofs.Tries.{next_stage-at}
+use Rattle.drive_core.specs.declared.server.Server.{Server}
+use Rattle.drive_core.specs.Accepting.{accepted_of}
+use Rattle.drive_core.specs.Fits.{Fits}
+use Rattle.drive_scene.specs.Half.{HasRoom}
 
 -- a window is empty where no stage failed
 pub empty_tried : (n k : ℕ) → n ≡ 2 * k → eqb n 0 ≡ eqb k 0
@@ -60,31 +57,6 @@ pub window_in : (v : View) (o : Option Accepted) → IsStaged v o → is_some v.
 window_in v None none is = absurd (true≢false (sym is ∙ ap is_some none))
 window_in v (Some a) command is = window_under_way v command.member a a.work command.under_way
 
--- one step of a turn is two operations at most
-no_more : (x y z : Op) (rest : List Op) → is_one_step (x ∷ y ∷ z ∷ rest) ≡ false
-no_more (Fetched p attempt) (Tried at q stage found) z rest = refl
-no_more (Fetched p attempt) y z rest = refl
-no_more (Torn payload tear) Cut z rest = refl
-no_more (Torn payload tear) y z rest = refl
-no_more x y z rest = refl
-
-two_at_most : (ops : List Op) → is_one_step ops ≡ true → length ops ≤ 2
-two_at_most [] is = omega arith
-two_at_most (x ∷ []) is = omega arith
-two_at_most (x ∷ y ∷ []) is = omega arith
-two_at_most (x ∷ y ∷ z ∷ rest) is = absurd (true≢false (sym is ∙ no_more x y z rest))
-
--- the windows after a turn of work on a command
-pub windows_work : (s : Scene) (c : ℕ) (entries : List Entry) (ops : List Op) → length (s.windows c) ≤ 48 → ((q : ℕ) → length (s.windows q) ≤ 50)
-    → is_one_step ops ≡ true → (q : ℕ) → length ((scene_after s (beat (Work c) entries ops)).windows q) ≤ 50
-windows_work s c entries ops few all step q =
-    let then : List Op = window_after c (s.windows c) (beat (Work c) entries ops) in
-    ⊎_elim
-    (λ (own : q ≡ c). subst (λ (n : ℕ). length ((scene_after s (beat (Work c) entries ops)).windows n) ≤ 50) (sym own)
-    (subst (λ (w : List Op). length w ≤ 50) (sym (put_at-own c then s.windows)) (by (list_any (opens_window c) entries))))
-    (λ (other : q ≡ c → ⊥). subst (λ (w : List Op). length w ≤ 50) (sym (put_at-other c q then s.windows other)) (all q))
-    (cases_eq q c)
-  where
-    by : (t : Bool) → length (cond t [] (s.windows c ++ ops)) ≤ 50
-    by true = omega arith
-    by false = omega (arith, few, two_at_most ops step, length-append (s.windows c) ops)
+-- each has room for one turn more
+pub room_of : (s : Scene) (c : ℕ) (d : Server) → Fits s d → HasRoom s c
+room_of s c d fits = record { own = window_in (view s c) (accepted_of d.commands.items c) (fits.staged c); all = fits.windows }

@@ -1,9 +1,8 @@
 -- Turns in which damage comes, and in which minutes pass.
 use Rattle.std.proofs.Common.{◌≡◌, ℕ, ◌+◌, ◌<◌, Bool, false, cond, List, [], ◌∷◌, ◌++◌, None, refl, sym, ap, ◌∙◌, subst, arith}
 use Rattle.std.specs.Prelude.{◌^◌, min}
-use Rattle.std.proofs.lemmas.List.Elements.{All-nil}
+use Rattle.std.proofs.lemmas.List.Elements.{All-nil, All-from_recursion}
 use Rattle.std.proofs.lemmas.List.Sums.{fold-append}
-use Rattle.std.proofs.lemmas.List.Elements.{All-from_recursion}
 use Rattle.platter_model.specs.declared.damage.Damage.{Damage}
 use Rattle.platter_model.specs.declared.op.Op.{Op}
 use Rattle.platter_model.specs.declared.op.Op.TheVariants.{Damaged}
@@ -24,25 +23,27 @@ use Rattle.block_machine.specs.Scan.{Scan, minutes_at_most, scan_after}
 use Rattle.history_replay.specs.declared.known.Known.{Known}
 use Rattle.drive_core.specs.declared.accepted.Accepted.{Accepted}
 use Rattle.drive_core.specs.declared.server.Server.{Server}
-use Rattle.drive_core.specs.Scene.{Scene, scene_after}
+use Rattle.drive_scene.specs.Scene.{Scene, scene_after, beat}
 use Rattle.drive_core.specs.Accepting.{accepted_of}
-use Rattle.drive_core.specs.Evidence.{lba}
-use Rattle.drive_core.specs.GoodTurn.{IsStood, IsAllowed, WritesBlockData}
-use Rattle.drive_core.specs.Fits.{Fits, HasOps, IsPresentMap, IsCached, KnowsHistory}
-use Rattle.drive_core.specs.Moves.{Moves, beat}
+use Rattle.drive_scene.specs.Evidence.{lba}
+use Rattle.drive_scene.specs.GoodTurn.{IsStood, IsAllowed, WritesBlockData}
+use Rattle.drive_scene.specs.Present.{IsPresentMap}
+use Rattle.drive_core.specs.Fits.{Fits, HasOps, IsCached, KnowsHistory}
+use Rattle.drive_core.specs.Moves.{Moves}
 use Rattle.drive_core.specs.Served.{IsServedWorld}
-use Rattle.drive_core.proofs.Tries.{no_strays-before}
+use Rattle.drive_scene.proofs.Tries.{no_strays-before}
 use Rattle.drive_core.proofs.Elsewhere.{staged-alike}
 use Rattle.drive_core.proofs.Parts.{IsGotOnly, cached_got, quiet_got}
 use Rattle.drive_core.proofs.Fitting.{known-quiet}
 use Rattle.drive_core.proofs.Closing.{has_ops, present_after}
-use Rattle.drive_core.proofs.Unmoved.{still_stands, has_same, none_added}
+use Rattle.drive_core.proofs.Unmoved.{still_stands, has_same, none_added, standing}
+use Rattle.drive_scene.proofs.Still.{good_still, good_damage}
 
 -- a damage of what is served may happen to the store
-pub may_happen : (s : Scene) (d : Server) (x : Damage) → Fits s d → d.store.platter.sectors ≡ total_of d.store.map.size → IsServedWorld s.map.size (world.Damage x)
+pub may_happen : (s : Scene) (d : Server) (x : Damage) → Fits s d → d.store.platter.sectors ≡ total_of d.store.map.size → IsServedWorld s.size (world.Damage x)
     → MayHappen d.store.platter (world.Damage x)
 may_happen s d x fits sectors served =
-    let size : d.store.platter.sectors ≡ total_of s.map.size = sectors ∙ ap (λ (n : DefectMap). total_of n.size) fits.store.map in
+    let size : d.store.platter.sectors ≡ total_of s.size = sectors ∙ (ap (λ (n : DefectMap). total_of n.size) fits.store.map ∙ ap total_of fits.size) in
     (omega (arith, served.0), served.1)
 
 -- the scene after a turn of the world: there are more operations and entries, and the scan went on
@@ -55,12 +56,13 @@ untouched : (s : Scene) (d e : Server) (ops : List Op) (entries : List Entry) (s
     → HasOps (with_world s ops entries scan) e.store → IsCached (with_world s ops entries scan) e.store.cache → KnowsHistory (with_world s ops entries scan) e.known
     → IsStood s.map (s.ops ++ ops) s.hist.blocks → Fits (with_world s ops entries scan) e
 untouched s d e ops entries scan fits set_is commands_is arrived_is store cached known stands = record {
+  size = fits.size;
   store = store;
   cached = cached;
   known = known;
   tasks = record { set = set_is ∙ fits.tasks.set; arrived = arrived_is ∙ fits.tasks.arrived; came = fits.tasks.came };
   staged = λ q. staged-alike s (with_world s ops entries scan) q (accepted_of d.commands.items q) (accepted_of e.commands.items q)
-      (record { map = refl; member = refl; duty = refl; window = refl; settings = refl; recovered = refl; dirty = λ n holds. refl })
+      (record { size = refl; map = refl; member = refl; duty = refl; window = refl; settings = refl; recovered = refl; dirty = λ n holds. refl })
       (ap (λ (xs : List Accepted). accepted_of xs q) commands_is) (fits.staged q);
   apart = fits.apart;
   windows = fits.windows;
@@ -86,6 +88,7 @@ damages s d e x fits store_is set_is commands_is arrived_is known_is keeps prese
     let stands : IsStood s.map (s.ops ++ Damaged x ∷ []) s.hist.blocks = λ none taken may q below.
     subst (λ v. IsAllowed s.hist.blocks q v) (sym (kept taken may q)) (fits.stands (no_strays-before s.ops (Damaged x ∷ []) none) s.map fits.store.present.may_be q below) in
     let got : IsGotOnly s t = record {
+      size = refl;
       map = refl;
       newest = λ n. refl;
       dirty = λ n. refl;
@@ -101,18 +104,7 @@ damages s d e x fits store_is set_is commands_is arrived_is known_is keeps prese
     record {
       ops = Damaged x ∷ [];
       added = added;
-      good = record {
-        tasks = refl;
-        blocks = λ none. refl;
-        shown = tt;
-        step = (refl, refl);
-        one_block = (lba 0, refl);
-        written = All-from_recursion (WritesBlockData s.map) (Damaged x ∷ []) (tt, tt);
-        own = tt;
-        window = fits.windows;
-        held = λ q below about. tt;
-        stands = stands;
-      };
+      good = good_damage s x (record { present = fits.store.present; stands = fits.stands }) fits.windows kept here;
       fits = untouched s d e (Damaged x ∷ []) [] s.hist.scan fits set_is commands_is arrived_is
           (has_ops s t d.store e.store (Damaged x ∷ []) fits.store refl refl map_is added (ap (λ (y : Contained). y.platter.armed) store_is) off
           (λ q. fold-append (faulty_after q) false s.ops (Damaged x ∷ [])) present)
@@ -146,21 +138,21 @@ minutes_pass s d e n entries fits store_is set_is commands_is arrived_is known_i
     let moves : M (Tick n ∷ []) = record {
       ops = [];
       added = none_added s d e fits store_is;
-      good = record {
+      good = good_still s (label.World (world.Minutes n)) (Tick n ∷ []) (standing s d e fits store_is) (record {
         tasks = refl;
-        blocks = λ none. refl;
+        blocks = refl;
         shown = (tt, tt);
         step = (sym (ap (λ (b : Bool). cond b [] (Tick n ∷ [])) fits.store.powered), refl);
-        one_block = (lba 0, refl);
-        written = All-nil (WritesBlockData s.map);
+        on_none = λ b. refl;
+        on_one = refl;
         own = tt;
-        window = fits.windows;
-        held = λ q below about. tt;
-        stands = still_stands s d e fits store_is;
-      };
+        order = refl;
+        windows = fits.windows;
+        unchanged = refl;
+      });
       fits = untouched s d e [] (Tick n ∷ []) (scan_after s.hist.scan (Tick n)) fits set_is commands_is arrived_is (has_same s d e fits store_is t refl refl)
           (subst (λ (y : Contained). IsCached t y.cache) (sym store_is)
-          (cached_got s t d.store.cache (quiet_got s t (Tick n ∷ []) refl refl refl refl refl refl) fits.cached))
+          (cached_got s t d.store.cache (quiet_got s t (Tick n ∷ []) refl refl refl refl refl refl refl) fits.cached))
           (subst (λ (k : Known). KnowsHistory t k) (sym known_is) (record {
             capacity = fits.known.capacity;
             settings = fits.known.settings;

@@ -40,25 +40,27 @@ use Rattle.block_machine.specs.declared.entry.Who.TheVariants.{Command}
 use Rattle.block_machine.specs.declared.turn.Label.TheVariants.{Work}
 use Rattle.drive_core.specs.declared.accepted.Accepted.{Accepted}
 use Rattle.drive_core.specs.declared.server.Server.{Server}
-use Rattle.drive_core.specs.declared.answer.Ended as told_end
-use Rattle.drive_core.specs.Scene.{Scene}
-use Rattle.drive_core.specs.Holds.{needed_by_plan, needed_block}
+use Rattle.drive_scene.specs.declared.answer.Ended as told_end
+use Rattle.drive_scene.specs.Scene.{Scene}
+use Rattle.drive_scene.specs.Holds.{needed_by_plan, needed_block}
 use Rattle.drive_core.specs.Served.{is_served_plan}
-use Rattle.drive_core.specs.Evidence.{lba}
-use Rattle.drive_core.specs.Ending.{ended_of_member}
+use Rattle.drive_scene.specs.Evidence.{lba}
+use Rattle.drive_scene.specs.Ending.{ended_of_member}
 use Rattle.drive_core.specs.Accepting.{accepted_of, under_way, Replaces}
-use Rattle.drive_core.specs.Commands.{view, IsWorking}
+use Rattle.drive_scene.specs.View.{view}
+use Rattle.drive_core.specs.Commands.{IsWorking}
 use Rattle.block_machine.specs.Deeds.{is_crowded}
 use Rattle.block_machine.specs.Steps.{begun}
-use Rattle.drive_core.specs.Fits.{IsPresentMap}
+use Rattle.drive_scene.specs.Present.{IsPresentMap}
 use Rattle.drive_core.specs.Moves.{Moves, MayWork, Leaves}
 use Rattle.drive_core.specs.Putting.{IsInCache, IsAtPlace, NeedsPut, GoesThrough}
 use Rattle.drive_core.proofs.Closing.{Goes, Stops}
 use Rattle.drive_core.proofs.TakeTurns.{WorksAt, works_at, StandsAt, stands_at, stands_in, free_block, owed_at}
-use Rattle.drive_core.proofs.PutTurns.{put_state, through_state}
+use Rattle.drive_scene.specs.Kinds.{put_state, through_state}
 use Rattle.drive_core.proofs.PutParts.{crowded, uncrowded}
 use Rattle.drive_core.proofs.WriteTurns.{course, written, IsWriteNeed, put_need, write_need, wrote, verifying}
 use Rattle.drive_core.proofs.WriteKinds.{IsAtWrite, turn_kept, turn_through}
+use Rattle.drive_scene.proofs.Tables.{within_map}
 
 -- what conclude says of a command that goes on, and of one that ends
 pub record Concludes (mid e : Server) (c : ℕ) (reply : Option Reply) (before entries : List Entry) (told : Option told_end.Ended) : Type 0 where
@@ -275,7 +277,7 @@ pub may_store : (s : Scene) (d : Server) (c : ℕ) (b : Lba) (bytes : List ℕ) 
 may_store s d c b bytes may by =
     let forced = forced_by s d c b bytes may by in
     let is : IsWriting s d c b bytes forced.0 = forced.1 in
-    let below : (lba is.w.at).0 < capacity_of s.map.size = omega (arith, is.at.left, is.at.working.range) in
+    let below : (lba is.w.at).0 < capacity_of s.map.size = within_map s (lba is.w.at) may.fits.size (omega (arith, is.at.left, is.at.working.range)) in
     record {
       below = subst (λ (n : DefectMap). b.0 < capacity_of n.size) (sym may.fits.store.map) (subst (λ (k : Lba). k.0 < capacity_of s.map.size) (sym is.b_is) below);
       powered = ap is_off may.fits.store.ops ∙ may.fits.store.powered;

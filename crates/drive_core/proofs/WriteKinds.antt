@@ -33,18 +33,21 @@ use Rattle.block_machine.specs.Deeds.{is_crowded}
 use Rattle.block_machine.specs.State.{owed_by}
 use Rattle.block_machine.specs.Steps.{begun}
 use Rattle.drive_core.specs.declared.server.Server.{Server}
-use Rattle.drive_core.specs.Scene.{Scene, capacity}
-use Rattle.drive_core.specs.Holds.{holder_besides}
-use Rattle.drive_core.specs.Evidence.{lba}
-use Rattle.drive_core.specs.Commands.{view, IsWorking}
-use Rattle.drive_core.specs.Fits.{IsPresentMap, Fits}
+use Rattle.drive_scene.specs.Scene.{Scene, capacity}
+use Rattle.drive_scene.specs.Holds.{holder_besides}
+use Rattle.drive_scene.specs.Evidence.{lba}
+use Rattle.drive_scene.specs.View.{view}
+use Rattle.drive_core.specs.Commands.{IsWorking}
+use Rattle.drive_scene.specs.Present.{IsPresentMap}
+use Rattle.drive_core.specs.Fits.{Fits}
 use Rattle.drive_core.specs.Putting.{IsInCache, IsAtPlace}
-use Rattle.drive_core.proofs.Tables.{put_at-own, put_at-other}
+use Rattle.drive_scene.proofs.Tables.{put_at-own, put_at-other, within_map}
 use Rattle.drive_core.proofs.Closing.{has_ops}
-use Rattle.drive_core.proofs.HardenTurns.{unstrayed}
+use Rattle.drive_scene.proofs.HardenTurns.{unstrayed}
 use Rattle.drive_core.proofs.HardenMoves.{off-written, faults-written}
 use Rattle.drive_core.proofs.HardenParts.{IsAfterHarden}
-use Rattle.drive_core.proofs.PutTurns.{IsPut, IsPutThrough, half_put, half_through, put_state, through_state, through-own, through-other}
+use Rattle.drive_scene.specs.Kinds.{IsPut, IsPutThrough, put_state, through_state}
+use Rattle.drive_scene.proofs.PutTurns.{half_put, half_through, through-own, through-other}
 use Rattle.drive_core.proofs.PutParts.{IsAfterPut, cached_put, cached_through, without-with}
 use Rattle.drive_core.proofs.WriteTurns.{course, next-kept, next-through, next-written, to_harden, IsWriteTurn}
 
@@ -55,7 +58,7 @@ pub record IsAtWrite (s : Scene) (d : Server) (c : ℕ) (m : Member) (settings :
   pub working : IsWorking (view s c) m (course settings gives w p rec)
   pub left : w.at < w.end
   pub unhardened : w.owes_harden ≡ false
-  pub free : holder_besides s c w.at ≡ None
+  pub free : holder_besides s (Work c) w.at ≡ None
   pub block : bytes ≡ block_of w.sent (w.at - w.from)
 
 module _ (s : Scene) (d e : Server) (c : ℕ) (m : Member) (settings : Settings) (gives : Bool) (w : writing.Writing) (p : Progress) (rec : Option Recovery)
@@ -91,8 +94,9 @@ module _ (s : Scene) (d e : Server) (c : ℕ) (m : Member) (settings : Settings)
         added = added;
         has = λ t map_is ops_is. has_ops s t d.store e.store [] at.fits.store map_is ops_is kept.map added (ap (λ (x : Platter). x.armed) kept.platter)
             (ap is_off (append-nil s.ops)) (λ q. ap (is_faulty q) (append-nil s.ops)) present;
-        cached = λ t more map_is ops_is since_is entries_is blocks_are order.
+        cached = λ t more size_is map_is ops_is since_is entries_is blocks_are order.
             let after : IsAfterPut s t c (lba w.at) bytes = record {
+              size = size_is;
               map = map_is;
               ops = ops_is ∙ append-nil s.ops;
               own = ap (λ (f : Blocks). f w.at) blocks_are ∙ put_at-own w.at (after_put (s.hist.blocks w.at) (Data bytes)) s.hist.blocks;
@@ -131,8 +135,10 @@ module _ (s : Scene) (d e : Server) (c : ℕ) (m : Member) (settings : Settings)
       (subst (λ (xs : List Op). KeepsOthers s.map xs e.store.platter.ops (lba w.at)) at.fits.store.ops
       (subst (λ (n : DefectMap). KeepsOthers n d.store.platter.ops e.store.platter.ops (lba w.at)) at.fits.store.map keeps)) in
       let is : IsPutThrough s c (lba w.at) bytes = record {
+        size = at.fits.size;
         put = put;
-        own_sector = λ q within same. own_sectors s.map at.fits.store.present.there.valid q (lba w.at) within below same;
+        own_sector = λ q within same. own_sectors s.map at.fits.store.present.there.valid q (lba w.at) (within_map s q at.fits.size within)
+            (within_map s (lba w.at) at.fits.size below) same;
         may_be = at.fits.store.present.may_be;
         stores = stores_then;
         keeps = keeps_then;
@@ -153,8 +159,9 @@ module _ (s : Scene) (d e : Server) (c : ℕ) (m : Member) (settings : Settings)
         has = λ t map_is ops_is. has_ops s t d.store e.store (Wrote (placed s.map (lba w.at) bytes) ∷ []) at.fits.store map_is ops_is stored.map added
             (ap (λ (x : Platter). x.armed) stored.platter) (off-written s.ops (placed s.map (lba w.at) bytes))
             (faults-written s.ops (placed s.map (lba w.at) bytes)) present;
-        cached = λ t more map_is ops_is since_is entries_is blocks_are order.
+        cached = λ t more size_is map_is ops_is since_is entries_is blocks_are order.
             let after : IsAfterHarden s t (lba w.at) bytes = record {
+              size = size_is;
               map = map_is;
               own = ap (λ (f : Blocks). f w.at) blocks_are ∙ through-own s (lba w.at) bytes;
               others = λ q other. ap (λ (f : Blocks). f q) blocks_are ∙ through-other s (lba w.at) bytes q other;
@@ -165,7 +172,7 @@ module _ (s : Scene) (d e : Server) (c : ℕ) (m : Member) (settings : Settings)
               since = since_is;
               unstrayed = λ none. unstrayed s.ops (Wrote (placed s.map (lba w.at) bytes)) (ap strays (sym ops_is) ∙ none);
               stores = (λ i. stored_at (map_is i) (ops_is i) (lba w.at)) ∙ stores_then s.map present_then.may_be;
-              keeps = λ q within other. (λ i. stored_at (map_is i) (ops_is i) q) ∙ keeps_then s.map present_then.may_be q within other;
+              keeps = λ q within other. (λ i. stored_at (map_is i) (ops_is i) q) ∙ keeps_then s.map present_then.may_be q (within_map s q at.fits.size within) other;
             } in
             cached_through s t (lba w.at) bytes d.store.cache e.store.cache after stored.cache at.fits.cached;
       }

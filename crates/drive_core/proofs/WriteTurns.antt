@@ -45,21 +45,25 @@ use Rattle.block_machine.specs.Turns.{owes_nothing_now}
 use Rattle.block_machine.proofs.Booleans.{and_both}
 use Rattle.drive_core.specs.declared.accepted.Accepted.{Accepted}
 use Rattle.drive_core.specs.declared.server.Server.{Server}
-use Rattle.drive_core.specs.declared.answer.Ended as told_end
-use Rattle.drive_core.specs.Scene.{Scene, capacity, last_found, window_after, opens_window, recovered_by, windows_with}
-use Rattle.drive_core.specs.Holds.{held_by_plan, held_block}
-use Rattle.drive_core.specs.Evidence.{lba, IsEndShown}
-use Rattle.drive_core.specs.Ending.{ended_of_member, ended_in}
-use Rattle.drive_core.specs.Commands.{View, view, IsAtBlock, IsTrying, IsWorking, IsCommand, IsOwnRange, IsOwnRecovery}
+use Rattle.drive_scene.specs.declared.answer.Ended as told_end
+use Rattle.drive_scene.specs.Scene.{Scene, capacity, last_found, window_after, opens_window, recovered_by, windows_with, beat}
+use Rattle.drive_scene.specs.Holds.{held_by_plan, held_block}
+use Rattle.drive_scene.specs.Evidence.{lba, IsEndShown}
+use Rattle.drive_scene.specs.Ending.{ended_of_member, ended_in}
+use Rattle.drive_scene.specs.View.{View, view}
+use Rattle.drive_core.specs.Commands.{IsAtBlock, IsTrying, IsWorking, IsCommand, IsOwnRange, IsOwnRecovery}
 use Rattle.drive_core.specs.Served.{is_served_plan}
 use Rattle.drive_core.specs.Fits.{HasOps, IsCached, Fits}
-use Rattle.drive_core.specs.Moves.{Moves, beat}
-use Rattle.drive_core.proofs.Tables.{put_at-own}
-use Rattle.drive_core.proofs.Gets.{bytes_eq-own}
-use Rattle.drive_core.proofs.Halves.{Half, goes_on, ends}
-use Rattle.drive_core.proofs.Apart.{holds_none}
-use Rattle.drive_core.proofs.Fitting.{after_half, after_end, fits_on, fits_end, reached-end}
+use Rattle.drive_core.specs.Moves.{Moves}
+use Rattle.drive_scene.proofs.Tables.{put_at-own}
+use Rattle.drive_scene.proofs.Gets.{bytes_eq-own}
+use Rattle.drive_scene.specs.Half.{Half}
+use Rattle.drive_scene.proofs.Halves.{goes_on, ends}
+use Rattle.drive_scene.proofs.Apart.{holds_none}
+use Rattle.drive_scene.proofs.Elsewhere.{after_half, after_end, reached-end}
+use Rattle.drive_core.proofs.Fitting.{fits_on, fits_end}
 use Rattle.drive_core.proofs.Closing.{Goes, Stops, moves_on, moves_end}
+use Rattle.drive_core.proofs.Windows.{room_of}
 
 -- a command that needs a block to be put is a write at that block
 pub record IsWriteNeed (plan : Plan) (step : Step) (b : Lba) (through : Bool) : Type 0 where
@@ -222,7 +226,7 @@ module _ (settings : Settings) (gives : Bool) (w : writing.Writing) (p : Progres
   -- the command stands as the history has it, by what comes next
   staged_by : (v : View) (m : Member) (a : Accepted) (plan : Plan) → after_written w ≡ plan → v.member ≡ Some m → m.started ≡ true
       → v.duty.owes ≡ Some (after_written w) → v.settings ≡ settings → settings.retry ≤ 20 → v.recovered ≡ rec → IsAtBlock v plan (Trying (begun settings.retry))
-      → end_of plan ≤ capacity_of v.map.size → IsOwnRecovery v.duty.asks rec → IsOwnRange v.duty.asks plan → IsTrue (is_served_plan plan)
+      → end_of plan ≤ capacity_of v.size → IsOwnRecovery v.duty.asks rec → IsOwnRange v.duty.asks plan → IsTrue (is_served_plan plan)
       → IsCommand v (record a { work = Some written })
   staged_by v m a plan is is_in started owes settings_are few recovered at range own_recovery own_range served =
       let whole : IsWorking v m (record { settings = settings; gives = gives; plan = plan; step = Trying (begun settings.retry); recovered = rec }) = record {
@@ -268,7 +272,7 @@ pub record IsWriteTurn (s : Scene) (d e : Server) (c : ℕ) (m : Member) (course
   pub told : (x : Reply) → ended_of_member (member_of s.hist.set c) x ≡ ended_in s (half ++ Ended c x ∷ [])
   pub added : e.store.platter.ops ≡ d.store.platter.ops ++ ops
   pub has : (t : Scene) → t.map ≡ s.map → t.ops ≡ s.ops ++ ops → HasOps t e.store
-  pub cached : (t : Scene) (more : List Entry) → t.map ≡ s.map → t.ops ≡ s.ops ++ ops → t.since ≡ s.since ++ ops → t.entries ≡ s.entries ++ (half ++ more)
+  pub cached : (t : Scene) (more : List Entry) → t.size ≡ s.size → t.map ≡ s.map → t.ops ≡ s.ops ++ ops → t.since ≡ s.since ++ ops → t.entries ≡ s.entries ++ (half ++ more)
       → t.hist.blocks ≡ h.blocks → t.hist.dirty ≡ h.dirty → IsCached t e.store.cache
 
 module _ (s : Scene) (d e : Server) (c : ℕ) (m : Member) (settings : Settings) (gives : Bool) (w : writing.Writing) (p : Progress) (rec : Option Recovery)
@@ -316,10 +320,10 @@ module _ (s : Scene) (d e : Server) (c : ℕ) (m : Member) (settings : Settings)
       → Goes d e c (record a { work = Some (written settings gives w p rec) }) half entries told → Moves (Work c) s d e entries told
   on a plan entries told is settled at range own_range served holds goes =
       moves_on s c ops half entries h (after_written w) d e (record a { work = Some (written settings gives w p rec) }) told turn.half_is
-      (goes_on s c ops half h (after_written w) d turn.fits turn.half_is (ap (λ (x : Plan). owes_nothing_now (Some x)) is ∙ settled) turn.acts)
+      (goes_on s c ops half h (after_written w) (room_of s c d turn.fits) (turn.has (after_half s c ops half) refl refl).present turn.half_is (ap (λ (x : Plan). owes_nothing_now (Some x)) is ∙ settled) turn.acts)
       (fits_on s c ops half h (after_written w) d e (record a { work = Some (written settings gives w p rec) }) turn.half_is turn.fits goes.set goes.arrived goes.known
       goes.replaces (turn.has (after_half s c ops half) refl refl)
-      (turn.cached (after_half s c ops half) [] refl refl refl (ap (λ (es : List Entry). s.entries ++ es) (sym (append-nil half)))
+      (turn.cached (after_half s c ops half) [] refl refl refl refl (ap (λ (es : List Entry). s.entries ++ es) (sym (append-nil half)))
       (ap (λ (x : State). x.blocks) turn.half_is.reached) (ap (λ (x : State). x.dirty) turn.half_is.reached))
       (staged a plan is at range own_range served)
       (holds_none s c ((after_half s c ops half).windows c) (after_written w) ((λ i. held_by_plan (window i) (is i)) ∙ holds)))
@@ -340,9 +344,9 @@ module _ (s : Scene) (d e : Server) (c : ℕ) (m : Member) (settings : Settings)
       let shown_last : End (Writing (next_writing w)) = λ more. absurd (omega arith) in
       let reached = reached-end s c ops half h (after_written w) good turn.half_is in
       moves_end s c ops half entries h (after_written w) d e good told turn.half_is
-      (ends s c ops half h (after_written w) Over good d turn.fits turn.half_is owes_last told_last (subst End (sym is) shown_last))
+      (ends s c ops half h (after_written w) Over good (room_of s c d turn.fits) (turn.has (after_half s c ops half) refl refl).present turn.half_is owes_last told_last (subst End (sym is) shown_last))
       (fits_end s c ops half h (after_written w) good d e turn.half_is turn.fits stops.left (turn.has (after_end s c ops half good) refl refl)
-      (turn.cached (after_end s c ops half good) (Ended c good ∷ []) refl refl refl refl
+      (turn.cached (after_end s c ops half good) (Ended c good ∷ []) refl refl refl refl refl
       (ap (λ (x : State). x.blocks) reached) (ap (λ (x : State). x.dirty) reached)))
       stops turn.fits turn.added (turn.told good)
 

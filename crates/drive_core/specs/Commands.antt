@@ -1,14 +1,11 @@
 -- How a command that is in stands.
-use Rattle.std.specs.Prelude.{◌≡◌, ℕ, ◌*◌, ◌<◌, ◌≤◌, Bool, true, false, IsTrue, List, [], length, slice_index, Option, Some, None, Result}
+use Rattle.std.specs.Prelude.{◌≡◌, ◌*◌, ◌<◌, ◌≤◌, true, false, IsTrue, [], length, slice_index, Option, Some, None, Result}
 use Rattle.std.specs.Option.{option_map_or, is_some}
 use Rattle.sense_data.specs.declared.sense.Sense.{Sense}
 use Rattle.task_set.specs.declared.member.Member.{Member}
-use Rattle.task_set.specs.Members.{member_of}
 use Rattle.read_recovery.specs.Stages.{Progress, next_stage}
-use Rattle.mode_pages.specs.declared.settings.Settings.{Settings}
-use Rattle.platter_model.specs.declared.op.Op.{Op}
 use Rattle.geometry_map.specs.Size.{capacity_of}
-use Rattle.geometry_map.specs.DefectMap.{DefectMap, place_of}
+use Rattle.geometry_map.specs.DefectMap.{place_of}
 use Rattle.cdb_reader.specs.declared.plan.Reading as reading
 use Rattle.cdb_reader.specs.declared.plan.Plan.{Plan}
 use Rattle.cdb_reader.specs.declared.plan.Plan.TheVariants.{Reading, Writing, Syncing}
@@ -20,42 +17,18 @@ use Rattle.command_engine.specs.declared.step.Step.TheVariants.{Trying}
 use Rattle.command_engine.specs.Course.{Course}
 use Rattle.command_engine.specs.Need.{end_of}
 use Rattle.command_engine.specs.Ending.{recovered_error}
-use Rattle.block_machine.specs.Blocks.{is_dirty}
 use Rattle.block_machine.specs.Entries.{recovery_within}
-use Rattle.block_machine.specs.State.{Duty}
 use Rattle.drive_core.specs.declared.accepted.Accepted.{Accepted}
-use Rattle.drive_core.specs.Scene.{Scene, last_found}
-use Rattle.drive_core.specs.Holds.{held_block}
-use Rattle.drive_core.specs.Evidence.{lba, FailedBelow}
+use Rattle.drive_scene.specs.Scene.{last_found}
+use Rattle.drive_scene.specs.Evidence.{lba, FailedBelow}
 use Rattle.drive_core.specs.Served.{is_served, is_served_plan}
-
--- what a scene has of one command: the map, the command in the set, what it asks for and owes, its window, the mode values with
--- which it started, its last recovery, and whether the block that it holds is dirty
-pub record View : Type 0 where
-  pub map : DefectMap
-  pub member : Option Member
-  pub duty : Duty
-  pub window : List Op
-  pub settings : Settings
-  pub recovered : Option Recovery
-  pub holds_dirty : Bool
-
-abbrev pub view : Scene → ℕ → View
-view s c = record {
-  map = s.map;
-  member = member_of s.hist.set c;
-  duty = s.hist.duties c;
-  window = s.windows c;
-  settings = s.settings c;
-  recovered = s.recovered c;
-  holds_dirty = option_map_or (λ b. is_dirty (s.hist.blocks b)) (held_block s c) false;
-}
+use Rattle.drive_scene.specs.View.{View}
 
 -- a command that didn't start yet
 pub record IsWaiting (v : View) (m : Member) (a : Accepted) : Type 0 where
   pub started : m.started ≡ false
   pub code : v.duty.code ≡ slice_index a.cdb 0
-  pub asks : v.duty.asks ≡ read_of a.cdb a.sent (capacity_of v.map.size)
+  pub asks : v.duty.asks ≡ read_of a.cdb a.sent (capacity_of v.size)
   pub sent : v.duty.sent ≡ a.sent
   pub owes : v.duty.owes ≡ None
   pub window : v.window ≡ []
@@ -101,7 +74,7 @@ pub record IsWorking (v : View) (m : Member) (w : Course) : Type 0 where
   pub retry : w.settings.retry ≤ 20
   pub recovered : v.recovered ≡ w.recovered
   pub at_block : IsAtBlock v w.plan w.step
-  pub range : end_of w.plan ≤ capacity_of v.map.size
+  pub range : end_of w.plan ≤ capacity_of v.size
   pub own_recovery : IsOwnRecovery v.duty.asks w.recovered
   pub own_range : IsOwnRange v.duty.asks w.plan
   pub served : IsTrue (is_served_plan w.plan)

@@ -1,17 +1,14 @@
 -- The parts of a drive are what its turns have come to.
-use Rattle.std.specs.Prelude.{◌≡◌, ℕ, ◌^◌, ◌≤◌, ◌<◌, false, List, length, map, Some, None, All}
+use Rattle.std.specs.Prelude.{◌≡◌, ℕ, ◌≤◌, ◌<◌, false, List, length, map, Some, None, All}
 use Rattle.std.specs.Map.{keys_of}
 use Rattle.std.specs.Option.{option_map}
 use Rattle.disk_base.specs.declared.address.Lba.{Lba}
 use Rattle.disk_base.specs.declared.address.Psn.{Psn}
 use Rattle.disk_base.specs.declared.block.Value.TheVariants.{Data}
-use Rattle.platter_model.specs.declared.op.Op.{Op}
 use Rattle.platter_model.specs.Sector.{is_faulty}
 use Rattle.platter_model.specs.TrueLog.{is_off, strays}
 use Rattle.write_cache.specs.Contents.{Contents, newest, clean_data}
-use Rattle.geometry_map.specs.DefectMap.{DefectMap}
-use Rattle.sector_store.specs.Maps.{MayBeRecovered}
-use Rattle.sector_store.specs.Stored.{stored, IsThere, KeepsBlocks}
+use Rattle.sector_store.specs.Stored.{stored}
 use Rattle.sector_store.specs.State.{Contained}
 use Rattle.block_machine.specs.Blocks.{is_dirty}
 use Rattle.block_machine.specs.Blocks as blocks
@@ -19,19 +16,14 @@ use Rattle.history_replay.specs.declared.known.Known.{Known}
 use Rattle.history_replay.specs.Known.{scan_of}
 use Rattle.history_replay.specs.Warning.{KnownWait}
 use Rattle.drive_core.specs.declared.server.Server.{Server}
-use Rattle.drive_core.specs.Scene.{Scene, capacity}
-use Rattle.drive_core.specs.Holds.{IsApart}
-use Rattle.drive_core.specs.Evidence.{IsKnown}
-use Rattle.drive_core.specs.GoodTurn.{IsStood, window_at_most}
+use Rattle.drive_scene.specs.Scene.{Scene, capacity}
+use Rattle.drive_scene.specs.Holds.{IsApart}
+use Rattle.drive_scene.specs.Evidence.{IsKnown}
+use Rattle.drive_scene.specs.GoodTurn.{IsStood, window_at_most}
 use Rattle.drive_core.specs.Accepting.{accepted_of}
-use Rattle.drive_core.specs.Commands.{view, IsStaged}
-
--- a map is there after operations, recovery may take it, and whatever it takes has the values that are stored by this one
-pub record IsPresentMap (m : DefectMap) (ops : List Op) : Type 0 where
-  pub there : IsThere m ops
-  pub number : m.number < 2 ^ 63
-  pub may_be : MayBeRecovered m.size ops m
-  pub finds : KeepsBlocks m ops ops
+use Rattle.drive_scene.specs.View.{view}
+use Rattle.drive_core.specs.Commands.{IsStaged}
+use Rattle.drive_scene.specs.Present.{IsPresentMap}
 
 -- the store has the map and the operations, the map is there, the power is on, and no sector has a write fault
 pub record HasOps (s : Scene) (store : Contained) : Type 0 where
@@ -76,6 +68,7 @@ pub record HasTasks (s : Scene) (d : Server) : Type 0 where
   pub came : All (λ m. m.task.c ≤ s.hist.arrived) s.hist.set
 
 pub record Fits (s : Scene) (d : Server) : Type 0 where
+  pub size : s.map.size ≡ s.size
   pub store : HasOps s d.store
   pub cached : IsCached s d.store.cache
   pub known : KnowsHistory s d.known

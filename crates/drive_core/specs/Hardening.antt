@@ -21,11 +21,11 @@ use Rattle.block_machine.specs.declared.entry.Entry.{Entry}
 use Rattle.block_machine.specs.declared.entry.Entry.TheVariants.{Passed}
 use Rattle.drive_core.specs.declared.server.Server.{Server}
 use Rattle.drive_core.specs.Accepting.{under_way}
-use Rattle.drive_core.specs.Evidence.{lba}
-use Rattle.drive_core.specs.Fits.{IsPresentMap}
-use Rattle.drive_core.specs.Holds.{needed_block}
+use Rattle.drive_scene.specs.Evidence.{lba}
+use Rattle.drive_scene.specs.Present.{IsPresentMap}
+use Rattle.drive_scene.specs.Holds.{needed_block}
 use Rattle.drive_core.specs.Moves.{MayWork}
-use Rattle.drive_core.specs.Scene.{Scene}
+use Rattle.drive_scene.specs.Scene.{Scene}
 
 -- a block is dirty, and a write to its place is carried out: the power is on, no cut is armed, the sector has no write fault
 pub record MayHarden (s : Contained) (b : Lba) : Type 0 where

@@ -2,9 +2,9 @@
 use Rattle.std.specs.Prelude.{◌≤◌, length, map}
 use Rattle.disk_base.specs.Along.{Along}
 use Rattle.drive_core.specs.declared.server.Server.{Server}
-use Rattle.drive_core.specs.Scene.{scene_at_start, scene_after, factory_ops}
-use Rattle.drive_core.specs.GoodTurn.{GoodTurn}
-use Rattle.drive_core.specs.Run.{Run, beat_of, FollowFrom, scene_of}
+use Rattle.drive_scene.specs.Scene.{scene_at_start, scene_after, factory_ops}
+use Rattle.drive_scene.specs.GoodTurn.{GoodTurn}
+use Rattle.drive_scene.specs.Run.{Run, beat_of, FollowFrom, scene_of}
 use Rattle.drive_core.specs.Fits.{Fits}
 
 -- each turn of the run is good, the drive's parts are what they have come to, and no more commands came than there are turns

@@ -1,17 +1,9 @@
 pub mod Accepting
-pub mod Scene
-pub mod Evidence
-pub mod Holds
-pub mod GoodTurn
-pub mod Run
 pub mod Commands
 pub mod Fits
 pub mod Kept
-pub mod Ending
 pub mod Moves
-pub mod Able
 pub mod Served
-pub mod Turning
 pub mod Serving
 pub mod Arriving
 pub mod Starting
@@ -20,4 +12,3 @@ pub mod Taking
 pub mod Needed
 pub mod Putting
 pub mod Syncing
-pub mod Progress

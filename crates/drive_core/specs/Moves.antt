@@ -5,17 +5,14 @@ use Rattle.task_set.specs.Members.{without}
 use Rattle.sector_store.specs.State.{Contained}
 use Rattle.block_machine.specs.declared.entry.Entry.{Entry}
 use Rattle.block_machine.specs.declared.turn.Label.{Label}
-use Rattle.drive_core.specs.declared.answer.Ended as ended
+use Rattle.drive_scene.specs.declared.answer.Ended as ended
 use Rattle.drive_core.specs.declared.server.Server.{Server}
 use Rattle.drive_core.specs.Accepting.{Drops}
-use Rattle.drive_core.specs.Scene.{Scene, Beat, scene_after}
-use Rattle.drive_core.specs.GoodTurn.{GoodTurn}
-use Rattle.drive_core.specs.Ending.{ended_in}
+use Rattle.drive_scene.specs.Scene.{Scene, scene_after, beat}
+use Rattle.drive_scene.specs.GoodTurn.{GoodTurn}
+use Rattle.drive_scene.specs.Ending.{ended_in}
 use Rattle.drive_core.specs.Fits.{Fits}
-use Rattle.drive_core.specs.Able.{refusal_of_work}
-
-abbrev pub beat : Label → List Entry → List Op → Beat
-beat label entries ops = record { label = label; entries = entries; ops = ops }
+use Rattle.drive_scene.specs.Able.{refusal_of_work}
 
 -- some operations were added, and with these entries they are a good turn of a scene, after which the drive's parts fit again;
 -- at most one command came, and this one ended

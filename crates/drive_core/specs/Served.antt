@@ -1,21 +1,21 @@
 -- What is served so far. This file alone is changed where more is.
-use Rattle.std.specs.Prelude.{◌+◌, ◌<◌, ◌≤◌, ◌==◌, ◌||◌, not, Bool, true, false, IsTrue, ℕ, List, slice_index, Result, Ok, Err}
+use Rattle.std.specs.Prelude.{◌+◌, ◌<◌, ◌≤◌, ◌==◌, not, Bool, true, false, IsTrue, ℕ, List, slice_index, Result, Ok, Err}
 use Rattle.sense_data.specs.declared.sense.Sense.{Sense}
 use Rattle.platter_model.specs.declared.world.World.{World}
 use Rattle.platter_model.specs.declared.world.World.TheVariants.{Damage, Minutes}
 use Rattle.geometry_map.specs.declared.size.Size.{Size}
 use Rattle.geometry_map.specs.Size.{total_of}
-use Rattle.cdb_reader.specs.Request.{Request, ReassignBlocks, ModeSelect}
+use Rattle.cdb_reader.specs.Request.{Request, ReassignBlocks}
 use Rattle.cdb_reader.specs.declared.plan.Plan.{Plan}
 use Rattle.cdb_reader.specs.declared.plan.Plan.TheVariants.{Ending, Unread, Reading, Writing, Syncing}
-use Rattle.drive_core.specs.declared.event.Arrival.{Arrival}
-use Rattle.drive_core.specs.declared.event.Arrival.TheVariants.{Command, Function}
-use Rattle.drive_core.specs.declared.event.Event.{Event}
-use Rattle.drive_core.specs.declared.event.Event.TheVariants as event
+use Rattle.drive_scene.specs.declared.event.Arrival.{Arrival}
+use Rattle.drive_scene.specs.declared.event.Arrival.TheVariants.{Command, Function}
+use Rattle.drive_scene.specs.declared.event.Event.{Event}
+use Rattle.drive_scene.specs.declared.event.Event.TheVariants as event
 
--- the operation codes that are served: all but REASSIGN BLOCKS and MODE SELECT (6) and (10)
+-- the operation codes that are served: all but REASSIGN BLOCKS
 abbrev pub is_served_code : ℕ → Bool
-is_served_code code = not (code == 0x07 || code == 0x15 || code == 0x55)
+is_served_code code = not (code == 0x07)
 
 -- a command block that is served: of these codes
 abbrev pub is_served_cdb : List ℕ → Bool
@@ -24,7 +24,6 @@ is_served_cdb bs = is_served_code (slice_index bs 0)
 -- what a served command block asks for, also where it is refused
 abbrev pub is_served : Result Request Sense → Bool
 is_served (Ok (ReassignBlocks blocks)) = false
-is_served (Ok (ModeSelect ten count)) = false
 is_served (Ok other) = true
 is_served (Err sense) = true
 

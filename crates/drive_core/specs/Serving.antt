@@ -3,18 +3,18 @@ use Rattle.std.specs.Prelude.{◌≡◌, ℕ, ◌+◌, ◌^◌, ◌<◌, Bool, t
 use Rattle.std.specs.Option.{is_none}
 use Rattle.block_machine.specs.declared.entry.Entry.{Entry}
 use Rattle.drive_core.specs.declared.accepted.Accepted.{Accepted}
-use Rattle.drive_core.specs.declared.event.Arrival.TheVariants.{Command, Function}
-use Rattle.drive_core.specs.declared.event.Event.{Event}
-use Rattle.drive_core.specs.declared.event.Event.TheVariants as event
+use Rattle.drive_scene.specs.declared.event.Arrival.TheVariants.{Command, Function}
+use Rattle.drive_scene.specs.declared.event.Event.{Event}
+use Rattle.drive_scene.specs.declared.event.Event.TheVariants as event
 use Rattle.drive_core.specs.declared.server.Server.{Server}
 use Rattle.drive_core.specs.declared.turning.Served.{Served}
-use Rattle.drive_core.specs.Scene.{Scene}
+use Rattle.drive_scene.specs.Scene.{Scene}
 use Rattle.drive_core.specs.Fits.{Fits}
 use Rattle.drive_core.specs.Accepting.{under_way}
-use Rattle.drive_core.specs.Able.{refusal_on}
+use Rattle.drive_scene.specs.Able.{refusal_on}
 use Rattle.drive_core.specs.Moves.{Moves}
 use Rattle.drive_core.specs.Served.{IsServed}
-use Rattle.drive_core.specs.Turning.{label_of, arrives_as, BeginsWith}
+use Rattle.drive_scene.specs.Turning.{label_of, arrives_as, BeginsWith}
 
 -- a task management function has an entry, and one for each command of the set; any other turn has at most four
 abbrev pub entries_at_most : Event → ℕ
@@ -31,7 +31,7 @@ may_want_memory commands other = false
 -- the parts of a drive fit a scene in which an event is served and not refused; one more command has a number
 pub record MayServe (s : Scene) (d : Server) (e : Event) : Type 0 where
   pub fits : Fits s d
-  pub served : IsServed s.map.size e
+  pub served : IsServed s.size e
   pub free : refusal_on s 0 e ≡ None
   pub numbered : d.arrived + 1 < 2 ^ 32
 

@@ -3,14 +3,15 @@ ghost use Rattle.std.specs.Prelude.{◌≡◌, ◌+◌, ◌<◌, ◌≤◌, ◌=
 ghost use Rattle.std.specs.Option.{option_map, option_map_or, option_and_then};
 ghost use Rattle.command_engine.specs.Answers.{is_hardened};
 ghost use Rattle.task_set.specs.Members.{member_of, IsIn, blocker_of};
+ghost use Rattle.block_machine.specs.declared.turn.Label.TheVariants as label;
 ghost use Rattle.block_machine.specs.Attentions.{initiators};
-ghost use Rattle.drive_core.specs.Scene.{Scene};
+ghost use Rattle.drive_scene.specs.Scene.{Scene};
 ghost use Rattle.drive_core.specs.Fits.{Fits};
-ghost use Rattle.drive_core.specs.Evidence.{lba};
+ghost use Rattle.drive_scene.specs.Evidence.{lba};
 ghost use Rattle.drive_core.specs.Accepting.{under_way};
-ghost use Rattle.drive_core.specs.Holds.{holds, holder_besides, needed_block};
+ghost use Rattle.drive_scene.specs.Holds.{holds, holder_besides, needed_block};
 ghost use Rattle.drive_core.specs.Needed.{IsNeeded, is_held};
-ghost use Rattle.drive_core.specs.Able.{refusal_of_work, work_refused, held_by_other, is_able, arrives, picked, nothing_waiting};
+ghost use Rattle.drive_scene.specs.Able.{refusal_of_work, work_refused, held_by_other, is_able, arrives, picked, nothing_waiting};
 
 use crate::accepted::{Accepted, errand_at, place};
 use crate::server::Server;
@@ -130,10 +131,7 @@ fn held(server: &Server, c: u32) -> Option<TurnAnswer>
 {
     match needed(server, c) {
         Some(b) => match holder_besides(server, c, b) {
-            Some(other) => Some(TurnAnswer::Held {
-                b,
-                by: Holder::Command(other),
-            }),
+            Some(by) => Some(TurnAnswer::Held { b, by }),
             None => None,
         },
         None => None,
@@ -165,13 +163,13 @@ fn block_of(need: Need, cache: &Cache) -> Option<Lba>
     }
 }
 
-// The oldest other command that holds a block.
-fn holder_besides(server: &Server, c: u32, b: Lba) -> Option<u32>
-    ensures { (s : Scene) → Fits s server.now → result ≡ holder_besides s c b.0 }
+// Who else than a command holds a block: the oldest command that does.
+fn holder_besides(server: &Server, c: u32, b: Lba) -> Option<Holder>
+    ensures { (s : Scene) → Fits s server.now → result ≡ holder_besides s (label.Work c) b.0 }
 {
     for member in server.set.members() {
         if keeps_from(server, member.task.c, c, b) {
-            return Some(member.task.c);
+            return Some(Holder::Command(member.task.c));
         }
     }
     None

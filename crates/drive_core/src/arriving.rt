@@ -1,14 +1,14 @@
 //! Commands and task management functions arrive.
 ghost use Rattle.std.specs.Prelude.{◌≡◌, ◌+◌, ◌≤◌, ◌<◌, ◌^◌, [], false, Some, IsOk, IfOk, OnOk, OnErr, IsTrue, vec_len, vec_capacity};
 ghost use Rattle.block_machine.specs.declared.turn.Label.TheVariants.{Arrive as ArriveOf};
-ghost use Rattle.drive_core.specs.Scene.{Scene};
+ghost use Rattle.drive_scene.specs.Scene.{Scene};
 ghost use Rattle.drive_core.specs.Moves.{Moves};
 ghost use Rattle.drive_core.specs.Fits.{Fits};
 ghost use Rattle.drive_core.specs.Served.{is_served_cdb};
-ghost use Rattle.drive_core.specs.Turning.{BeginsWith};
+ghost use Rattle.drive_scene.specs.Turning.{BeginsWith};
 ghost use Rattle.drive_core.specs.Arriving.{entry_of};
 ghost use Rattle.drive_core.specs.Serving.{MayServe, IsServedTurn, entries_at_most, may_want_memory};
-ghost use Rattle.drive_core.specs.declared.event.Event.TheVariants as event;
+ghost use Rattle.drive_scene.specs.declared.event.Event.TheVariants as event;
 
 use crate::accepted::Accepted;
 use crate::asking::ask;

@@ -4,10 +4,10 @@ ghost use Rattle.task_set.specs.Members.{is_named, numbers};
 ghost use Rattle.block_machine.specs.declared.entry.Entry.TheVariants.{Asked as AskedFor, Aborted as AbortedOne};
 ghost use Rattle.block_machine.specs.declared.turn.Label.TheVariants.{Arrive as ArriveOf};
 ghost use Rattle.block_machine.specs.Turns.{named_by};
-ghost use Rattle.drive_core.specs.Scene.{Scene};
+ghost use Rattle.drive_scene.specs.Scene.{Scene};
 ghost use Rattle.drive_core.specs.Moves.{Moves};
 ghost use Rattle.drive_core.specs.Fits.{Fits};
-ghost use Rattle.drive_core.specs.Turning.{BeginsWith};
+ghost use Rattle.drive_scene.specs.Turning.{BeginsWith};
 
 use crate::accepted::leave_with_set;
 use crate::server::Server;

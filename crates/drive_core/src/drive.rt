@@ -2,10 +2,10 @@
 ghost use Rattle.std.specs.Prelude.{◌≡◌, ◌↔◌, [], false, IsTrue, IfOk, OnErr, MatchOption, MatchResult};
 ghost use Rattle.platter_model.specs.TrueLog.{is_off};
 ghost use Rattle.geometry_map.specs.DefectMap.{IsPrimaryList};
-ghost use Rattle.drive_core.specs.Run.{IsGoodRun, run_at_start, scene_of};
-ghost use Rattle.drive_core.specs.Able.{refusal, needs_power, pick_of};
-ghost use Rattle.drive_core.specs.Turning.{AddsTurn, coming_after};
-ghost use Rattle.drive_core.specs.Progress.{SomebodyIsAble};
+ghost use Rattle.drive_scene.specs.Run.{IsGoodRun, run_at_start, scene_of};
+ghost use Rattle.drive_scene.specs.Able.{refusal, needs_power, pick_of};
+ghost use Rattle.drive_scene.specs.Turning.{AddsTurn, coming_after};
+ghost use Rattle.drive_scene.specs.Progress.{SomebodyIsAble};
 ghost use Rattle.drive_core.specs.Served.{IsServed};
 ghost use Rattle.drive_core.specs.Starting.{KnowsStart};
 
@@ -40,7 +40,7 @@ pub struct Drive {
 }
 
 impl Model for Drive {
-    ghost use Rattle.drive_core.specs.Run.{Run, run_of};
+    ghost use Rattle.drive_scene.specs.Run.{Run, run_of};
     ghost use Rattle.drive_core.specs.Kept.{Kept};
 
     ghost Value = { Run };

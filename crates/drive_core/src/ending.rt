@@ -2,7 +2,7 @@
 ghost use Rattle.std.specs.Prelude.{◌≡◌, ◌+◌, ◌≤◌, ◌∷◌, [], ◌++◌, Some, None, vec_len, vec_capacity};
 ghost use Rattle.task_set.specs.Members.{member_of, IsIn};
 ghost use Rattle.drive_core.specs.Moves.{Leaves};
-ghost use Rattle.drive_core.specs.Ending.{ended_of_member};
+ghost use Rattle.drive_scene.specs.Ending.{ended_of_member};
 
 use crate::Ended;
 use crate::accepted::leave;

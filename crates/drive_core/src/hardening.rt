@@ -9,7 +9,7 @@ ghost use Rattle.block_machine.specs.declared.turn.Label.TheVariants.{Work as Wo
 ghost use Rattle.drive_core.specs.Accepting.{accepted_of, under_way, errand_of, Replaces};
 ghost use Rattle.drive_core.specs.Hardening.{MayHarden, MayHardenFor, Hardens, hardened_at};
 ghost use Rattle.drive_core.specs.Moves.{Moves, MayWork};
-ghost use Rattle.drive_core.specs.Scene.{Scene};
+ghost use Rattle.drive_scene.specs.Scene.{Scene};
 ghost use Rattle.drive_core.specs.Taking.{errand_for};
 ghost use Rattle.drive_core.specs.declared.accepted.Accepted.{Accepted as Command};
 

@@ -5,12 +5,10 @@
 
 mod able;
 mod accepted;
-mod answer;
 mod arriving;
 mod asking;
 mod drive;
 mod ending;
-mod event;
 mod hardening;
 mod putting;
 mod server;
@@ -24,6 +22,5 @@ mod turn_tests;
 mod turning;
 mod worldly;
 
-pub use answer::{Ended, Pick, TurnAnswer, Waiting};
 pub use drive::Drive;
-pub use event::{Arrival, Event, Holder};
+pub use drive_scene::{Arrival, Ended, Event, Holder, Pick, TurnAnswer, Waiting};

@@ -6,7 +6,7 @@ ghost use Rattle.command_engine.specs.declared.need.Need.{Need as Needed};
 ghost use Rattle.drive_core.specs.Accepting.{under_way};
 ghost use Rattle.drive_core.specs.Moves.{Moves, MayWork};
 ghost use Rattle.drive_core.specs.Putting.{NeedsPut, GoesThrough};
-ghost use Rattle.drive_core.specs.Scene.{Scene};
+ghost use Rattle.drive_scene.specs.Scene.{Scene};
 ghost use Rattle.drive_core.specs.Syncing.{Needs};
 
 use crate::accepted::{Accepted, place};

@@ -1,19 +1,21 @@
 //! The first turn of work on a command.
-ghost use Rattle.std.specs.Prelude.{◌≡◌, ◌≤◌, [], None, Some, IfOk, OnErr, IsTrue, slice_index, vec_capacity};
+ghost use Rattle.std.specs.Prelude.{◌≡◌, ℕ, ◌+◌, ◌≤◌, ◌∷◌, [], ◌++◌, None, Some, IfOk, OnErr, IsTrue, slice_index, vec_len, vec_capacity};
 ghost use Rattle.block_machine.specs.declared.turn.Label.TheVariants.{Work as WorkOn};
+ghost use Rattle.block_machine.specs.Attentions.{after_mode_change};
+ghost use Rattle.block_machine.specs.Plans.{plan_unless_refused};
 ghost use Rattle.block_machine.specs.State.{initiator_of};
 ghost use Rattle.block_machine.specs.Steps.{waiting_at_start};
 ghost use Rattle.cdb_reader.specs.Read.{read_of};
 ghost use Rattle.cdb_reader.specs.Request.{outcome_of};
-ghost use Rattle.history_replay.specs.Known.{duty_of, with_set};
+ghost use Rattle.history_replay.specs.Known.{duty_of, state_of, with_set};
 ghost use Rattle.history_replay.specs.Warning.{KnownWait};
 ghost use Rattle.task_set.specs.Members.{IsIn};
 ghost use Rattle.drive_core.specs.declared.accepted.Accepted.{Accepted as AcceptedCommand};
 ghost use Rattle.drive_core.specs.Accepting.{accepted_of, under_way};
-ghost use Rattle.drive_core.specs.Evidence.{page_of};
-ghost use Rattle.drive_core.specs.Scene.{Scene};
+ghost use Rattle.drive_scene.specs.Evidence.{page_of};
+ghost use Rattle.drive_scene.specs.Scene.{Scene};
 ghost use Rattle.drive_core.specs.Moves.{Moves, MayWork};
-ghost use Rattle.drive_core.specs.Starting.{IsFirst, IsFirstBy};
+ghost use Rattle.drive_core.specs.Starting.{IsFirst, IsFirstBy, IsSelected};
 ghost use Rattle.drive_core.specs.Served.{is_served};
 
 use crate::Ended;
@@ -24,9 +26,11 @@ use block_machine::{Entry, Label};
 use cdb_reader::{Command, Plan};
 use command_engine::Work;
 use defect_lists::{DefectReply, DefectRequest, defect_reply};
-use disk_base::{Bytes, NoMemory};
+use disk_base::{Bytes, DataOut, NoMemory};
 use geometry_map::Map;
-use history_replay::{Known, first_plan, read, settle_attentions};
+use history_replay::{Known, first_plan, read, settings_after, settings_made, settle_attentions};
+use mode_pages::Settings;
+use sense_data::codes::INVALID_OPERATION_CODE;
 use sense_data::{Reply, Sense};
 use std::alloc::Global;
 use task_set::{Member, TaskSet};
@@ -60,6 +64,10 @@ pub fn start(
             entries.push_reserved(Entry::Page { c, bytes });
             Ok(conclude(server, c, Some(reply), entries))
         }
+        First::Change(made) => {
+            change(&mut server.known, &server.set, c, made, entries);
+            Ok(conclude(server, c, Some(Reply::good()), entries))
+        }
         First::Work(command) => {
             let sent = take_sent(&mut server.commands, c);
             begin(
@@ -79,6 +87,8 @@ pub enum First {
     Reply(Reply),
     /// It gives these data, and ends with this at once.
     Page { bytes: Bytes, reply: Reply },
+    /// It makes these the mode values, and ends GOOD at once.
+    Change(Settings),
     /// Work on blocks.
     Work(Command),
 }
@@ -106,6 +116,26 @@ fn tell(known: &mut Known, set: &TaskSet, commands: &[Accepted], c: u32)
             &Entry::Started { c },
         );
     }
+}
+
+// A command of the set makes these the mode values, of which all other initiators are to be told.
+fn change(known: &mut Known, set: &TaskSet, c: u32, made: Settings, entries: &mut Vec<Entry>)
+    requires is_in { IsIn set.now c }
+    requires known { KnownWait known.old.waiting }
+    requires room { vec_len entries.old + 1 ≤ vec_capacity entries.old }
+    ensures known { known.new ≡ record known.old {
+      settings = made;
+      waiting = after_mode_change (initiator_of (with_set set.now) c) known.old.waiting;
+    } }
+    ensures entries { entries.new.items ≡ entries.old.items ++ Entry.Mode made ∷ [] }
+    ensures capacity { vec_capacity entries.new ≡ vec_capacity entries.old }
+{
+    let mode = Entry::Mode { settings: made };
+    // No command starts.
+    let none = Err(INVALID_OPERATION_CODE);
+    settle_attentions(&mut known.waiting, &Label::Work(c), set, 0, &none, &mode);
+    known.settings = settings_after(&known.settings, &mode);
+    entries.push_reserved(mode);
 }
 
 // What a command of the set begins with.
@@ -158,6 +188,10 @@ fn first_by(
             let bytes = page(alloc, map, &asks, planned)?;
             Ok(First::Page { bytes, reply })
         }
+        (Plan::Changing, asks) => {
+            let made = changed(alloc, known, &asks, &accepted.sent)?;
+            Ok(First::Change(made))
+        }
         (_, Ok(command)) => Ok(First::Work(command)),
         (_, Err(_)) => unreachable!(),
     }
@@ -191,6 +225,32 @@ fn page(
             Ok(bytes)
         }
         _ => Ok(planned),
+    }
+}
+
+// The mode values that a command makes whose plan is to change them.
+fn changed(
+    alloc: Global,
+    known: &Known,
+    asks: &Result<Command, Sense>,
+    sent: &DataOut,
+) -> Result<Settings, NoMemory>
+    requires { (i : ℕ) × (plan_unless_refused known.now.capacity (state_of known.now) i sent.now (outcome_of asks.now) ≡ Plan.Changing) }
+    ensures { IfOk result (IsSelected known.now.capacity known.now.settings (outcome_of asks.now) sent.now) }
+{
+    let Known {
+        settings,
+        capacity,
+        ..
+    } = known;
+    match asks {
+        Ok(Command::ModeSelect { ten, length }) => {
+            match settings_made(alloc, settings, *capacity, *ten, *length, sent)? {
+                Ok(made) => Ok(made),
+                Err(_) => unreachable!(),
+            }
+        }
+        _ => unreachable!(),
     }
 }
 

@@ -4,7 +4,7 @@ ghost use Rattle.write_cache.specs.Contents.{dirty_within};
 ghost use Rattle.block_machine.specs.declared.turn.Label.TheVariants.{Work as WorkOn};
 ghost use Rattle.drive_core.specs.Hardening.{passed_to};
 ghost use Rattle.drive_core.specs.Moves.{Moves, MayWork};
-ghost use Rattle.drive_core.specs.Scene.{Scene};
+ghost use Rattle.drive_scene.specs.Scene.{Scene};
 ghost use Rattle.drive_core.specs.Syncing.{Needs};
 
 use crate::Ended;

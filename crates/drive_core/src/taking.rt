@@ -8,7 +8,7 @@ ghost use Rattle.write_cache.specs.Contents.{newest};
 ghost use Rattle.block_machine.specs.declared.turn.Label.TheVariants.{Work as WorkOn};
 ghost use Rattle.drive_core.specs.Accepting.{under_way, errand_of};
 ghost use Rattle.drive_core.specs.Moves.{Moves, MayWork};
-ghost use Rattle.drive_core.specs.Scene.{Scene};
+ghost use Rattle.drive_scene.specs.Scene.{Scene};
 ghost use Rattle.drive_core.specs.Taking.{IsLooked, IsStageTried, IsSought, may_be_dirty, value_got, errand_for, got_entries};
 
 use crate::ending::conclude;

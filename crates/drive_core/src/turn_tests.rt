@@ -1,9 +1,10 @@
 //! Events of a small drive, and how it answers them. Whole commands are carried out by the tests of the program's top call.
-ghost use Rattle.std.specs.Prelude.{IsTrue};
+ghost use Rattle.std.specs.Prelude.{◌≤◌, IsTrue};
 ghost use Rattle.drive_core.specs.Served.{is_served_cdb};
 
-use crate::{Arrival, Drive, Event, Holder, Pick, TurnAnswer, Waiting};
-use disk_base::{Attribute, Cdb, DataOut, Function, Initiator, Lba, Psn, Tag};
+use crate::{Arrival, Drive, Ended, Event, Holder, Pick, TurnAnswer, Waiting};
+use block_machine::{Entry, Turn};
+use disk_base::{Attribute, Bytes, Cdb, DataOut, Function, Initiator, Lba, Psn, Tag};
 use geometry_map::Size;
 use platter_model::{Damage, Effect, Lasting, World};
 use std::alloc::Global;
@@ -11,6 +12,22 @@ use std::test::Fail;
 
 // READ (10) of the first block.
 static READ: [u8; 10] = [0x28, 0, 0, 0, 0, 0, 0, 0, 1, 0];
+
+// MODE SELECT (10) of 28 bytes.
+static MODE_SELECT: [u8; 10] = [0x55, 0x10, 0, 0, 0, 0, 0, 0, 28, 0];
+
+// MODE SENSE (10) of the Caching mode page without a block descriptor.
+static MODE_SENSE: [u8; 10] = [0x5A, 0x08, 0x08, 0, 0, 0, 0, 0, 255, 0];
+
+// A header, and a Caching mode page with WCE 0.
+static NO_WRITE_CACHE: [u8; 28] = [
+    0, 0, 0, 0, 0, 0, 0, 0, 0x08, 0x12, 0, 0, 0, 0, 0, 0, 0, 0, 0, 0, 0, 0, 0, 0, 0, 0, 0, 0,
+];
+
+// The same as MODE SENSE gives it, with its length and DPOFUA 1.
+static NO_WRITE_CACHE_SHOWN: [u8; 28] = [
+    0, 0x1A, 0, 0x10, 0, 0, 0, 0, 0x08, 0x12, 0, 0, 0, 0, 0, 0, 0, 0, 0, 0, 0, 0, 0, 0, 0, 0, 0, 0,
+];
 
 static NOTHING: Waiting = Waiting {
     arrivals: [false; 8],
@@ -33,12 +50,13 @@ fn damaged(alloc: Global) -> Result<(Drive, TurnAnswer), Fail> {
     Ok((drive, answer))
 }
 
-// A command arrives.
-fn send(
+// A command arrives with its data.
+fn send_with(
     mut drive: Drive,
     from: u8,
     attribute: Attribute,
     bytes: &[u8],
+    sent: DataOut,
 ) -> Result<(Drive, TurnAnswer), Fail>
     requires { IsTrue (is_served_cdb bytes.now) }
 {
@@ -47,16 +65,55 @@ fn send(
         tag: Tag(1),
         attribute,
         cdb: Cdb::new(bytes).ok_or("a command block")?,
-        sent: DataOut::Nothing,
+        sent,
     };
     let answer = drive.turn(Event::Arrive(arrival))?;
     Ok((drive, answer))
+}
+
+// A command arrives without data.
+fn send(
+    drive: Drive,
+    from: u8,
+    attribute: Attribute,
+    bytes: &[u8],
+) -> Result<(Drive, TurnAnswer), Fail>
+    requires { IsTrue (is_served_cdb bytes.now) }
+{
+    send_with(drive, from, attribute, bytes, DataOut::Nothing)
 }
 
 // One turn of work on a command.
 fn work(mut drive: Drive, c: u32) -> Result<(Drive, TurnAnswer), Fail> {
     let answer = drive.turn(Event::Work(c))?;
     Ok((drive, answer))
+}
+
+// A command of an initiator ended with a status in the turn of this number.
+fn ended(number: u64, from: u8, status: u8) -> TurnAnswer
+    requires low { 1 ≤ from }
+    requires high { from ≤ 8 }
+{
+    TurnAnswer::Done {
+        number,
+        ended: Some(Ended {
+            initiator: Initiator::new(from).unwrap(),
+            tag: Tag(1),
+            status,
+        }),
+        scanned: false,
+    }
+}
+
+// Whether the last turn gave these data behind a start.
+fn is_given(turns: &[Turn], data: &[u8]) -> bool {
+    match turns {
+        [.., last] => match last.entries.as_slice() {
+            [_, Entry::Page { bytes, .. }, ..] => bytes.as_slice() == data,
+            _ => false,
+        },
+        [] => false,
+    }
 }
 
 // A turn of the only command that is able.
@@ -142,5 +199,30 @@ fn a_cleared_task_set(rt: HostRuntime) -> Result<(), Fail> {
     };
     assert_eq!(rt; answer, done);
     assert!(rt; drive.is_idle());
+    Ok(())
+}
+
+// An initiator turns the write cache off by a MODE SELECT (10) of the Caching mode page.
+fn selected(alloc: Global, drive: Drive, from: u8) -> Result<(Drive, TurnAnswer), Fail> {
+    let list = Vec::from_slice(alloc, &NO_WRITE_CACHE)?;
+    let sent = DataOut::Given(Bytes::from_vec(list));
+    let (drive, _) = send_with(drive, from, Attribute::Simple, &MODE_SELECT, sent)?;
+    any(drive)
+}
+
+// The mode values change, a MODE SENSE (10) shows them, and the other initiators are told.
+#[test]
+fn changed_mode_values(rt: HostRuntime) -> Result<(), Fail> {
+    let (drive, _) = damaged(rt.alloc())?;
+    let (drive, _) = told(drive, 1)?;
+    let (drive, _) = told(drive, 2)?;
+    let (drive, answer) = selected(rt.alloc(), drive, 1)?;
+    assert_eq!(rt; answer, ended(7, 1, 0));
+    let (drive, _) = send(drive, 1, Attribute::Simple, &MODE_SENSE)?;
+    let (drive, _) = any(drive)?;
+    assert!(rt; is_given(drive.turns(), &NO_WRITE_CACHE_SHOWN));
+    let (drive, _) = send(drive, 2, Attribute::Simple, &[0, 0, 0, 0, 0, 0])?;
+    let (_, answer) = any(drive)?;
+    assert_eq!(rt; answer, ended(11, 2, 2));
     Ok(())
 }

@@ -2,7 +2,7 @@
 ghost use Rattle.std.specs.Prelude.{◌≡◌, ◌+◌, ◌≤◌, [], false, Some, None, IsOk, IfOk, OnErr, vec_len, vec_capacity};
 ghost use Rattle.std.specs.Option.{option_map, is_none};
 ghost use Rattle.drive_core.specs.Accepting.{under_way, errand_of};
-ghost use Rattle.drive_core.specs.Scene.{Scene};
+ghost use Rattle.drive_scene.specs.Scene.{Scene};
 ghost use Rattle.drive_core.specs.Moves.{Moves, MayWork};
 ghost use Rattle.drive_core.specs.Serving.{MayServe, IsServedTurn, entries_at_most, may_want_memory};
 ghost use Rattle.block_machine.specs.declared.turn.Label.TheVariants.{Work as WorkOn};

@@ -2,11 +2,11 @@
 ghost use Rattle.std.specs.Prelude.{◌≡◌, ◌≤◌, [], None, vec_capacity};
 ghost use Rattle.platter_model.specs.declared.world.World.TheVariants as world;
 ghost use Rattle.block_machine.specs.declared.turn.Label.TheVariants as label;
-ghost use Rattle.drive_core.specs.Scene.{Scene};
+ghost use Rattle.drive_scene.specs.Scene.{Scene};
 ghost use Rattle.drive_core.specs.Fits.{Fits};
 ghost use Rattle.drive_core.specs.Moves.{Moves};
 ghost use Rattle.drive_core.specs.Serving.{MayServe};
-ghost use Rattle.drive_core.specs.declared.event.Event.TheVariants as event;
+ghost use Rattle.drive_scene.specs.declared.event.Event.TheVariants as event;
 
 use crate::server::Server;
 use crate::standing::stands;

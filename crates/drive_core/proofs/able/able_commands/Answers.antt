@@ -2,10 +2,10 @@ use Rattle.std.proofs.Common.{◌≡◌, ◌∙◌, ℕ, ◌∷◌, [], ◌++◌
 use Rattle.std.specs.Prelude.{All}
 use Rattle.std.specs.Option.{is_none}
 use Rattle.std.proofs.lemmas.List.Elements.{All-push}
-use Rattle.drive_core.specs.Scene.{Scene}
+use Rattle.drive_scene.specs.Scene.{Scene}
 use Rattle.drive_core.specs.Fits.{Fits}
-use Rattle.drive_core.specs.Able.{refusal_of_work}
-use Rattle.drive_core.proofs.Walking.{IsNext, member-there, able-one, able-none, free-one, tells_none}
+use Rattle.drive_scene.specs.Able.{refusal_of_work}
+use Rattle.drive_scene.proofs.Walking.{IsNext, member-there, able-one, able-none, free-one, tells_none}
 use Rattle.drive_core.proofs.able.able_commands.Goals as goal
 use Rattle.drive_core.proofs.able.able_commands.Goals.{then-is_none, else-is_none}
 

@@ -1,9 +1,9 @@
 -- The commands so far on which work may come.
 use Rattle.std.proofs.Common.{◌≡◌, ◌≤◌, length, filter, map, take, None}
 use Rattle.std.specs.Prelude.{All}
-use Rattle.drive_core.specs.Scene.{Scene}
+use Rattle.drive_scene.specs.Scene.{Scene}
 use Rattle.drive_core.specs.Fits.{Fits}
-use Rattle.drive_core.specs.Able.{is_able, refusal_of_work}
+use Rattle.drive_scene.specs.Able.{is_able, refusal_of_work}
 use Rattle.drive_core.proofs.able.able_commands.Given as goal
 
 abbrev pub invariant-loop-member : goal.invariant-loop-member

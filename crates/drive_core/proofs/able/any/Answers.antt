@@ -1,8 +1,8 @@
 use Rattle.std.proofs.Common.{◌≢◌, ◌∙◌, ◌<◌, ℕ, List, Some, ap, sym, arith, get_or, length}
 use Rattle.std.specs.Prelude.{◌%◌}
 use Rattle.std.proofs.lemmas.Bool.{eqb-false}
-use Rattle.drive_core.specs.declared.answer.Pick.TheVariants.{Work}
-use Rattle.drive_core.proofs.Walking.{any-picked}
+use Rattle.drive_scene.specs.declared.answer.Pick.TheVariants.{Work}
+use Rattle.drive_scene.proofs.Walking.{any-picked}
 use Rattle.drive_core.proofs.able.any.Goals as goal
 
 pub returns-clause-picked : goal.returns-clause-picked

@@ -1,5 +1,5 @@
 use Rattle.std.proofs.Common.{◌≡◌, arith, ◌∷◌, [], ◌++◌, length, length-append, ap}
-use Rattle.drive_core.proofs.Walking.{arrives-one, arrives-none}
+use Rattle.drive_scene.proofs.Walking.{arrives-one, arrives-none}
 use Rattle.drive_core.proofs.able.arriving.Goals as goal
 use Rattle.drive_core.proofs.able.arriving.Goals.{in-Some, in_default}
 

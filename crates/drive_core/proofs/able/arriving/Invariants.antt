@@ -1,7 +1,7 @@
 -- The initiators before this one of which something arrives.
 use Rattle.std.proofs.Common.{◌≡◌, ◌-◌, ◌<◌, ◌≤◌, length, filter, take}
 use Rattle.block_machine.specs.Attentions.{initiators}
-use Rattle.drive_core.specs.Able.{arrives}
+use Rattle.drive_scene.specs.Able.{arrives}
 use Rattle.drive_core.proofs.able.arriving.Given as goal
 
 abbrev pub invariant-loop-number : goal.invariant-loop-number

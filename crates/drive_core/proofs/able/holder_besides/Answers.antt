@@ -1,8 +1,8 @@
 use Rattle.std.proofs.Common.{◌∙◌, sym, eqb, not}
 use Rattle.std.specs.Prelude.{◌&&◌}
-use Rattle.drive_core.specs.Holds.{holds}
+use Rattle.drive_scene.specs.Holds.{holds}
 use Rattle.task_set.specs.declared.member.Member.{Member}
-use Rattle.drive_core.proofs.Walking.{walks-past}
+use Rattle.drive_scene.proofs.Walking.{walks-past}
 use Rattle.drive_core.proofs.able.holder_besides.Goals as goal
 
 pub loop-member-preserved : goal.loop-member-preserved

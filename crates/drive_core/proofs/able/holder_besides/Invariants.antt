@@ -1,9 +1,9 @@
 -- None of the commands so far holds the block.
 use Rattle.std.proofs.Common.{◌≡◌, drop, eqb, not}
 use Rattle.std.specs.Prelude.{◌&&◌, find}
-use Rattle.drive_core.specs.Scene.{Scene}
+use Rattle.drive_scene.specs.Scene.{Scene}
 use Rattle.drive_core.specs.Fits.{Fits}
-use Rattle.drive_core.specs.Holds.{holds}
+use Rattle.drive_scene.specs.Holds.{holds}
 use Rattle.drive_core.proofs.able.holder_besides.Given as goal
 
 abbrev pub invariant-loop-member : goal.invariant-loop-member

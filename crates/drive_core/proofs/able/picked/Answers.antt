@@ -1,5 +1,5 @@
 use Rattle.std.proofs.Common.{arith}
-use Rattle.drive_core.proofs.Walking.{arrival-picked, work-picked}
+use Rattle.drive_scene.proofs.Walking.{arrival-picked, work-picked}
 use Rattle.drive_core.proofs.able.picked.Goals as goal
 
 pub returns-then-k-len : goal.returns-then-k-len

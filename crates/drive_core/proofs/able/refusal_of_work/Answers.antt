@@ -1,5 +1,5 @@
 use Rattle.std.proofs.Common.{◌∙◌, sym}
-use Rattle.drive_core.proofs.Walking.{member-itself, refusal-is}
+use Rattle.drive_scene.proofs.Walking.{member-itself, refusal-is}
 use Rattle.drive_core.proofs.able.refusal_of_work.Goals as goal
 
 pub work_refused-requires : goal.work_refused-requires

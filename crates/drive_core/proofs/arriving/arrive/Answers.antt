@@ -2,11 +2,11 @@ use Rattle.std.proofs.Common.{◌+◌, ◌≤◌, ℕ, Some, None, refl, sym, su
 use Rattle.std.specs.Vec.{vec_capacity}
 use Rattle.block_machine.specs.declared.turn.Label.TheVariants as label
 use Rattle.drive_core.specs.declared.arriving.Arriving.{Arriving}
-use Rattle.drive_core.specs.declared.event.Arrival.{Arrival}
-use Rattle.drive_core.specs.declared.event.Event.TheVariants as event
+use Rattle.drive_scene.specs.declared.event.Arrival.{Arrival}
+use Rattle.drive_scene.specs.declared.event.Event.TheVariants as event
 use Rattle.drive_core.specs.Arriving.{entry_of}
 use Rattle.drive_core.specs.Serving.{IsServedTurn, entries_at_most}
-use Rattle.drive_core.specs.Turning.{BeginsWith}
+use Rattle.drive_scene.specs.Turning.{BeginsWith}
 use Rattle.drive_core.proofs.ArrivalTurns.{room_of_four}
 use Rattle.drive_core.proofs.arriving.arrive.Goals as goal
 

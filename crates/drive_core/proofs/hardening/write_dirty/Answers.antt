@@ -1,7 +1,7 @@
 use Rattle.std.proofs.Common.{◌≡◌, ◌⊎◌, ℕ, ◌^◌, ◌<◌, List, sym, ap, ◌∙◌, subst}
 use Rattle.std.specs.Option.{IfSome}
 use Rattle.geometry_map.specs.DefectMap.{DefectMap}
-use Rattle.drive_core.specs.Fits.{IsPresentMap}
+use Rattle.drive_scene.specs.Present.{IsPresentMap}
 use Rattle.sector_store.specs.State.{Contained}
 use Rattle.write_cache.specs.Contents.{Contents, IsCache, newest, with_clean, without_dirty, found_at, after_look}
 use Rattle.drive_core.specs.Hardening.{Hardens, Settles}

@@ -1,7 +1,7 @@
 use Rattle.std.proofs.Common.{◌≤◌, subst}
 use Rattle.std.specs.Vec.{vec_capacity}
-use Rattle.drive_core.specs.declared.event.Event.{Event}
-use Rattle.drive_core.specs.declared.event.Event.TheVariants as event
+use Rattle.drive_scene.specs.declared.event.Event.{Event}
+use Rattle.drive_scene.specs.declared.event.Event.TheVariants as event
 use Rattle.drive_core.specs.Serving.{MayServe, entries_at_most}
 use Rattle.drive_core.proofs.ArrivalTurns.{room_of_four}
 use Rattle.drive_core.proofs.turning.serve.Goals as goal

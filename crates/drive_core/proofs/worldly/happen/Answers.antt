@@ -1,6 +1,6 @@
 use Rattle.std.proofs.Common.{subst}
 use Rattle.platter_model.specs.declared.world.World.{World}
-use Rattle.drive_core.specs.declared.event.Event.TheVariants as event
+use Rattle.drive_scene.specs.declared.event.Event.TheVariants as event
 use Rattle.drive_core.specs.Serving.{MayServe}
 use Rattle.drive_core.proofs.worldly.happen.Goals as goal
 

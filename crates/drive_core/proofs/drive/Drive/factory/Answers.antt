@@ -2,7 +2,7 @@ use Rattle.std.proofs.Common.{ℕ, List, refl, sym, subst}
 use Rattle.geometry_map.specs.Size.{capacity_of}
 use Rattle.block_machine.specs.declared.turn.Turn.{Turn}
 use Rattle.drive_core.specs.declared.server.Server.{Server}
-use Rattle.drive_core.specs.Run.{run_of}
+use Rattle.drive_scene.specs.Run.{run_of}
 use Rattle.drive_core.specs.Starting.{KnowsStart}
 use Rattle.drive_core.specs.Kept.{Kept}
 use Rattle.drive_core.proofs.Fresh.{kept-fresh}

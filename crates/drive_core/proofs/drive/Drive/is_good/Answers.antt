@@ -1,7 +1,7 @@
 use Rattle.std.proofs.Common.{subst}
 use Rattle.platter_model.specs.State as platter
 use Rattle.platter_model.specs.TrueLog.{IsTrueLog}
-use Rattle.drive_core.specs.Run.{IsGoodRun}
+use Rattle.drive_scene.specs.Run.{IsGoodRun}
 use Rattle.drive_core.proofs.GoodRuns.{good_run}
 use Rattle.drive_core.proofs.drive.Drive.is_good.Goals as goal
 

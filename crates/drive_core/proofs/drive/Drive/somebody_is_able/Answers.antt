@@ -1,6 +1,6 @@
 use Rattle.std.proofs.Common.{subst}
 use Rattle.task_set.specs.Members.{IsByAge}
-use Rattle.drive_core.specs.Run.{Run, scene_of}
+use Rattle.drive_scene.specs.Run.{Run, scene_of}
 use Rattle.drive_core.specs.Fits.{Fits}
 use Rattle.drive_core.proofs.Advancing.{somebody_is_able}
 use Rattle.drive_core.proofs.drive.Drive.somebody_is_able.Goals as goal

@@ -1,11 +1,11 @@
 use Rattle.std.proofs.Common.{◌∙◌, ℕ, false, length, refl, sym, ap, subst}
 use Rattle.platter_model.specs.State as platter
-use Rattle.drive_core.specs.declared.answer.TurnAnswer.TheVariants.{Done}
+use Rattle.drive_scene.specs.declared.answer.TurnAnswer.TheVariants.{Done}
 use Rattle.drive_core.specs.declared.server.Server.{Server}
-use Rattle.drive_core.specs.Run.{Run, run_of, scene_of}
+use Rattle.drive_scene.specs.Run.{Run, run_of, scene_of}
 use Rattle.drive_core.specs.Kept.{Kept}
-use Rattle.drive_core.specs.Able.{refusal}
-use Rattle.drive_core.specs.Turning.{AddsTurn, coming_after}
+use Rattle.drive_scene.specs.Able.{refusal}
+use Rattle.drive_scene.specs.Turning.{AddsTurn, coming_after}
 use Rattle.drive_core.proofs.DriveTurns.{kept-same, IsReserved, reserved, turn_of, served_turn, adds-turn, kept-after, given_turn}
 use Rattle.drive_core.proofs.drive.Drive.turn.Goals as goal
 

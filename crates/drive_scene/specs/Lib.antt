@@ -1,0 +1,15 @@
+pub mod Scene
+pub mod View
+pub mod Evidence
+pub mod Holds
+pub mod Present
+pub mod GoodTurn
+pub mod Half
+pub mod Kinds
+pub mod Still
+pub mod Laws
+pub mod Run
+pub mod Ending
+pub mod Able
+pub mod Turning
+pub mod Progress

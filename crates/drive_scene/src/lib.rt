@@ -1,0 +1,15 @@
+//! What a drive promises of each turn: the events that it is told, its answers, and in specs/ what turns and operations come
+//! to together, what one turn has to show of its operations, and which turns may come. Nothing here names the drive itself.
+#![tactic(auto)]
+
+mod answer;
+mod event;
+mod laws;
+
+pub use answer::{Ended, Pick, TurnAnswer, Waiting};
+pub use event::{Arrival, Event, Holder};
+pub use laws::{
+    damage_turns_are_good, gets_are_halves, halves_end, halves_go_on, hardens_are_halves,
+    passes_are_halves, passes_to_harden_are_halves, puts_are_halves, puts_through_are_halves,
+    still_turns_are_good, tries_are_halves,
+};
