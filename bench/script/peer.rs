@@ -328,7 +328,7 @@ fn weight_of(capacity: u64, line: &Line) -> u64 {
 
 fn is_served(line: &Line) -> bool {
     match line {
-        Line::Command { cdb, .. } => !matches!(cdb.bytes[0], 0x07 | 0x15 | 0x55),
+        Line::Command { cdb, .. } => cdb.bytes[0] != 0x07,
         Line::Function { .. } | Line::Go => true,
         Line::World(World::Damage { .. } | World::Minutes(_)) => true,
         _ => false,

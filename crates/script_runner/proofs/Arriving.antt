@@ -22,9 +22,9 @@ use Rattle.block_machine.specs.State.{State, Duty, is_full}
 use Rattle.block_machine.specs.Steps.{entries_after, entry_after, task_arrived}
 use Rattle.block_machine.specs.Turns.{is_answered, are_aborted}
 use Rattle.block_machine.proofs.Booleans.{both}
-use Rattle.drive_core.specs.declared.event.Arrival.{Arrival as Sent}
-use Rattle.drive_core.specs.declared.event.Arrival.TheVariants.{Command, Function}
-use Rattle.drive_core.specs.Scene.{Scene, capacity, scene_after, with_arrival}
+use Rattle.drive_scene.specs.declared.event.Arrival.{Arrival as Sent}
+use Rattle.drive_scene.specs.declared.event.Arrival.TheVariants.{Command, Function}
+use Rattle.drive_scene.specs.Scene.{Scene, capacity, scene_after, with_arrival}
 use Rattle.script_runner.specs.Arrivals.{Sends}
 use Rattle.script_runner.specs.Measure.{steps_asked, turns_left, sum_upto, turns_of_arrival, turns_to_send, turns_of_phase}
 use Rattle.script_runner.specs.Each.{Each}
@@ -56,13 +56,13 @@ others_at_once blocks i h c j t a cdb sent n ne = record { member = go (is_full 
 pub record Comes (blocks : ℕ) (h k : State) (c : ℕ) (cdb : List ℕ) (sent : DataOut) : Type 0 where
   pub counted : k.arrived ≡ h.arrived + 1
   pub others : (n : ℕ) → (n ≡ c → ⊥) → IsUntouched h k n
-  pub few : (w : ℕ) → of_command (member_of k.set c) (k.duties c) w ≤ 51 * (steps_asked (read_of cdb sent blocks) + 1) + 50
+  pub few : (w : ℕ) → of_command (member_of k.set c) (k.duties c) w ≤ 309 * (steps_asked (read_of cdb sent blocks) + 1) + 308
 
-few_fresh : (blocks : ℕ) (o : Option Member) (cdb : List ℕ) (sent : DataOut) (w : ℕ) → of_command o (fresh blocks cdb sent) w ≤ 51 * (steps_asked (read_of cdb sent blocks) + 1) + 50
+few_fresh : (blocks : ℕ) (o : Option Member) (cdb : List ℕ) (sent : DataOut) (w : ℕ) → of_command o (fresh blocks cdb sent) w ≤ 309 * (steps_asked (read_of cdb sent blocks) + 1) + 308
 few_fresh blocks None cdb sent w = omega arith
 few_fresh blocks (Some m) cdb sent w = go m.started
   where
-    go : (b : Bool) → 51 * (cond b 0 (steps_asked (read_of cdb sent blocks) + 1) + 0) + (50 - w) ≤ 51 * (steps_asked (read_of cdb sent blocks) + 1) + 50
+    go : (b : Bool) → 309 * (cond b 0 (steps_asked (read_of cdb sent blocks) + 1) + 0) + (50 - w) + 258 ≤ 309 * (steps_asked (read_of cdb sent blocks) + 1) + 308
     go true = omega arith
     go false = omega arith
 
@@ -80,7 +80,7 @@ pub comes : (blocks i : ℕ) (h : State) (c j : ℕ) (t : Tag) (a : Attribute) (
 comes blocks i h c j t a cdb sent full [] ok = record {
   counted = refl;
   others = others_at_once blocks i h c j t a cdb sent;
-  few = λ w. subst (λ (duty : Duty). of_command (member_of (came blocks i h c j t a cdb sent).set c) duty w ≤ 51 * (steps_asked (read_of cdb sent blocks) + 1) + 50)
+  few = λ w. subst (λ (duty : Duty). of_command (member_of (came blocks i h c j t a cdb sent).set c) duty w ≤ 309 * (steps_asked (read_of cdb sent blocks) + 1) + 308)
       (sym (put_same c c (fresh blocks cdb sent) h.duties refl)) (few_fresh blocks (member_of (came blocks i h c j t a cdb sent).set c) cdb sent w);
 }
 comes blocks i h c j t a cdb sent true (Ended d reply ∷ []) ok =
@@ -91,7 +91,7 @@ comes blocks i h c j t a cdb sent true (Ended d reply ∷ []) ok =
       few = λ w.
           let none : member_of (without (came blocks i h c j t a cdb sent).set d) c ≡ None =
           subst (λ (x : ℕ). member_of (without (came blocks i h c j t a cdb sent).set x) c ≡ None) (sym is) (own_left c (came blocks i h c j t a cdb sent).set) in
-          subst (λ (o : Option Member). of_command o ((entries_after blocks (label.Arrive i) h (Arrived c j t a cdb sent ∷ Ended d reply ∷ [])).duties c) w ≤ 51 * (steps_asked (read_of cdb sent blocks) + 1) + 50) (sym none) (omega arith);
+          subst (λ (o : Option Member). of_command o ((entries_after blocks (label.Arrive i) h (Arrived c j t a cdb sent ∷ Ended d reply ∷ [])).duties c) w ≤ 309 * (steps_asked (read_of cdb sent blocks) + 1) + 308) (sym none) (omega arith);
     }
 comes blocks i h c j t a cdb sent full rest ok = absurd (cc)
 
@@ -126,7 +126,7 @@ arrival_lower s sends left i c t a cdb sent rest ops next ok low high first othe
     sum_same (turns_left s) (turns_left k) s.hist.arrived (λ j le.
     let one = it.others j (λ e. omega arith) in
     turns_is k j ∙ (rw (one.member, one.duty, window j (λ e. omega arith)) refl) ∙ sym (turns_is s j)) in
-    let own : turns_left k c ≤ 51 * (steps_asked (read_of cdb sent blocks) + 1) + 50 = rw turns_is (it.few (length (k.windows c))) in
+    let own : turns_left k c ≤ 309 * (steps_asked (read_of cdb sent blocks) + 1) + 308 = rw turns_is (it.few (length (k.windows c))) in
     let up : k.hist.arrived ≡ suc s.hist.arrived = it.counted ∙ add-one s.hist.arrived in
     let all : sum_upto (turns_left k) k.hist.arrived ≡ sum_upto (turns_left k) s.hist.arrived + turns_left k c =
     ap (sum_upto (turns_left k)) up ∙ ap (λ (x : ℕ). sum_upto (turns_left k) s.hist.arrived + x) (ap (turns_left k) (sym (next ∙ add-one s.hist.arrived))) in

@@ -15,6 +15,7 @@ use Rattle.disk_base.specs.Along.{Along, all_along}
 use Rattle.disk_base.specs.Payload.{value_for}
 use Rattle.geometry_map.specs.DefectMap.{DefectMap, factory_map, place_of}
 use Rattle.geometry_map.specs.Laws.{BlocksHaveOwnSectors, BlocksLieOnUserSectors}
+use Rattle.geometry_map.specs.declared.size.Size.{Size}
 use Rattle.geometry_map.specs.Size.{capacity_of}
 use Rattle.platter_model.specs.declared.op.Op.{Op}
 use Rattle.platter_model.specs.declared.op.Op.TheVariants.{Tried}
@@ -29,9 +30,9 @@ use Rattle.block_machine.specs.Steps.{begun, entries_after}
 use Rattle.block_machine.proofs.Alongs.{along_second}
 use Rattle.block_machine.proofs.Booleans.{both}
 use Rattle.block_machine.proofs.Projection.{blocks_of_entries, blocks_begun}
-use Rattle.drive_core.specs.Scene.{Scene, Beat, capacity, scene_at_start, scene_after, opens_window, window_after, with_arrival, windows_by, windows_with}
-use Rattle.drive_core.specs.GoodTurn.{GoodTurn}
-use Rattle.drive_core.proofs.GoodRuns.{map_stays}
+use Rattle.drive_scene.specs.Scene.{Scene, Beat, capacity, scene_at_start, scene_after, opens_window, window_after, with_arrival, windows_by, windows_with}
+use Rattle.drive_scene.specs.GoodTurn.{GoodTurn}
+use Rattle.drive_scene.proofs.Pushes.{map_stays}
 use Rattle.script_runner.specs.Laws.{BadReadsAreShown}
 use Rattle.script_runner.specs.Run.{beats_of, drive_run}
 use Rattle.script_runner.proofs.OwnData.{IsOwn, WritesOwn, own_meant, own_written}
@@ -152,6 +153,11 @@ lost_is_clean n blocks earlier rest c b lawful =
     let of_block = both _ (may_get (fold blocks_after blocks earlier b.0) Lost) here.0 in
     (ltb-true b.0 n of_block.0, not-true (is_dirty (fold blocks_after blocks earlier b.0)) of_block.1)
 
+-- no turn changes the drive's measures
+size_stays : (s : Scene) (turns : List Beat) → (fold scene_after s turns).size ≡ s.size
+size_stays s [] = refl
+size_stays s (t ∷ turns) = size_stays (scene_after s t) turns
+
 pub bad_reads_are_shown : BlocksHaveOwnSectors → BlocksLieOnUserSectors → BadReadsAreShown
 unfolding AreWithin
 bad_reads_are_shown apart on_user order script turns ops good none before after t earlier rest c b is_t is_e =
@@ -172,7 +178,7 @@ bad_reads_are_shown apart on_user order script turns ops good none before after 
     ap (λ (bs : Blocks). is_dirty (bs b.0)) same ∙ clean.1 in
     let map_is : (fold scene_after start before).map ≡ factory_map good.size script.primary.items = map_stays start before in
     let place : place_of (factory_map good.size script.primary.items) b ≡ place_of s.map b = ap (λ (m : DefectMap). place_of m b) (sym map_is) in
-    let below : b.0 < capacity_of good.size = subst (λ (m : DefectMap). b.0 < capacity_of m.size) map_is clean.0 in
+    let below : b.0 < capacity_of good.size = subst (λ (z : Size). b.0 < capacity_of z) (size_stays start before) clean.0 in
     let written : All (WritesOwn b (place_of s.map b)) ops =
     subst (λ (p : Psn). All (WritesOwn b p) ops) place
     (subst (All (WritesOwn b (place_of (factory_map good.size script.primary.items) b))) good.history.own

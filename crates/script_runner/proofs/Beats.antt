@@ -8,11 +8,11 @@ use Rattle.disk_base.specs.declared.address.Psn.{Psn}
 use Rattle.geometry_map.specs.declared.size.Size.{Size}
 use Rattle.platter_model.specs.declared.op.Op.{Op}
 use Rattle.block_machine.specs.declared.turn.Turn.{Turn}
-use Rattle.drive_core.specs.declared.event.Event.{Event}
-use Rattle.drive_core.specs.Scene.{Beat, scene_after, scene_at_start, factory_ops}
-use Rattle.drive_core.specs.GoodTurn.{GoodTurn}
-use Rattle.drive_core.specs.Run.{Run, FollowFrom, beat_of, scene_of}
-use Rattle.drive_core.specs.Turning.{label_of, arrives_as, BeginsWith}
+use Rattle.drive_scene.specs.declared.event.Event.{Event}
+use Rattle.drive_scene.specs.Scene.{Beat, scene_after, scene_at_start, factory_ops}
+use Rattle.drive_scene.specs.GoodTurn.{GoodTurn}
+use Rattle.drive_scene.specs.Run.{Run, FollowFrom, beat_of, scene_of}
+use Rattle.drive_scene.specs.Turning.{label_of, arrives_as, BeginsWith}
 use Rattle.script_runner.specs.Run.{beats_of}
 use Rattle.script_runner.specs.Phasing.{GoesOn, MakesTurn}
 

@@ -1,7 +1,9 @@
 -- Examples of phases, of the order of turns, and of turns that carry lines out.
-use Rattle.std.proofs.Common.{◌≡◌, refl, ℕ, true, false, [], ◌∷◌, Some, None}
+use Rattle.std.proofs.Common.{◌≡◌, refl, ℕ, ◌+◌, ◌*◌, true, false, [], ◌∷◌, length, Some, None}
 use Rattle.disk_base.specs.declared.command.Attribute.TheVariants.{Simple}
 use Rattle.disk_base.specs.declared.command.DataOut.TheVariants.{Nothing}
+use Rattle.read_recovery.specs.Stages.{stages_of}
+use Rattle.cdb_reader.specs.Operation.{operation_of}
 use Rattle.cdb_reader.specs.declared.plan.Plan.TheVariants.{Reading, Syncing, Over}
 use Rattle.block_machine.specs.declared.entry.Entry.TheVariants.{Arrived}
 use Rattle.block_machine.specs.declared.turn.Label.TheVariants as label
@@ -9,15 +11,15 @@ use Rattle.block_machine.specs.Attentions.{attentions_at_start}
 use Rattle.block_machine.specs.State.{state_at_start}
 use Rattle.platter_model.specs.declared.world.World.TheVariants as world
 use Rattle.script_text.specs.declared.script.Line.{Line}
-use Rattle.script_text.specs.declared.script.Line.TheVariants.{Command, Go, World}
-use Rattle.drive_core.specs.declared.event.Arrival.{Arrival}
-use Rattle.drive_core.specs.declared.event.Arrival.TheVariants as arrival
-use Rattle.drive_core.specs.Scene.{Scene, Beat}
+use Rattle.script_text.specs.declared.script.Line.TheVariants.{Command, Scan, Go, World}
+use Rattle.drive_scene.specs.declared.event.Arrival.{Arrival}
+use Rattle.drive_scene.specs.declared.event.Arrival.TheVariants as arrival
+use Rattle.drive_scene.specs.Scene.{Scene, Beat}
 use Rattle.script_runner.specs.Arrivals.{Sends, sends_of, lines_of, arrived_in}
 use Rattle.script_runner.specs.Order.{drawn, number_of}
 use Rattle.script_runner.specs.Phase.{IsPhase, IsPicked, ByOrder}
 use Rattle.script_runner.specs.CarriedOut.{CarryOut}
-use Rattle.script_runner.specs.Measure.{steps_of}
+use Rattle.script_runner.specs.Measure.{steps_of, turns_of_move, turns_a_step, turns_of_scan, turns_of_line, turns_by_weight}
 
 -- a READ (10) of block 0, under a tag
 abbrev sent : ℕ → ℕ → Arrival
@@ -116,3 +118,31 @@ of_a_sync = refl
 
 of_nothing : steps_of Over ≡ 0
 of_nothing = refl
+
+-- the turns of a move, from one entry of a command to its next, and of a step of the scan; a read has at most 25 stages
+of_a_move : turns_of_move ≡ 257
+of_a_move = refl
+
+of_a_step : turns_a_step ≡ 309
+of_a_step = refl
+
+of_the_scan : turns_of_scan ≡ 282
+of_the_scan = refl
+
+all_stages : length (stages_of 20) ≡ 25
+all_stages = refl
+
+-- a READ of a block has five entries at most, its arrival and what its window and a move come to
+of_a_read_line : turns_of_line 3984 (line 1 7) ≡ 1 + 309 * 5 + 308
+unfolding operation_of
+of_a_read_line = refl
+
+of_scans : turns_of_line 3984 (Scan 7) ≡ 1974
+of_scans = refl
+
+-- by its weight of 1, and by none
+by_weight : turns_by_weight 3984 (line 1 7 ∷ []) ≡ 2163 + 19776
+by_weight = refl
+
+by_number : turns_by_weight 3984 (Go ∷ Go ∷ []) ≡ 4326
+by_number = refl

@@ -1,9 +1,9 @@
 -- What an initiator sends next is taken.
 use Rattle.std.proofs.Common.{◌≡◌, ◌∙◌, ap, sym, refl, subst, ℕ, ◌⊎◌, inl, inr, List, ◌∷◌}
-use Rattle.drive_core.specs.declared.event.Arrival.{Arrival as Sent}
-use Rattle.drive_core.specs.declared.event.Event.TheVariants as event
-use Rattle.drive_core.specs.declared.answer.Pick.{Pick}
-use Rattle.drive_core.specs.declared.answer.Pick.TheVariants.{Arrive, Job, Scan, Destage}
+use Rattle.drive_scene.specs.declared.event.Arrival.{Arrival as Sent}
+use Rattle.drive_scene.specs.declared.event.Event.TheVariants as event
+use Rattle.drive_scene.specs.declared.answer.Pick.{Pick}
+use Rattle.drive_scene.specs.declared.answer.Pick.TheVariants.{Arrive, Job, Scan, Destage}
 use Rattle.script_runner.specs.Each.{Each}
 use Rattle.script_runner.specs.Arrivals.{Sends, sends_of, Taken}
 use Rattle.script_runner.specs.Phasing.{AreServed, IsAtHand, IsToSend, Fetches}

@@ -10,13 +10,13 @@ use Rattle.geometry_map.specs.declared.size.Size.{Size}
 use Rattle.platter_model.specs.declared.world.World.{World as Outside}
 use Rattle.script_text.specs.declared.script.Line.{Line}
 use Rattle.script_text.specs.declared.script.Line.TheVariants.{Command, Function, Go, World}
-use Rattle.drive_core.specs.declared.event.Arrival.{Arrival as Sent}
-use Rattle.drive_core.specs.declared.event.Arrival.TheVariants as arrival
-use Rattle.drive_core.specs.Scene.{Scene, Beat, capacity, scene_after, scene_at_start}
-use Rattle.drive_core.specs.Run.{Run, scene_of, beat_of}
-use Rattle.drive_core.specs.declared.answer.Waiting.{Waiting}
-use Rattle.drive_core.specs.Able.{picked}
-use Rattle.drive_core.specs.Turning.{initiator_of, label_of_pick}
+use Rattle.drive_scene.specs.declared.event.Arrival.{Arrival as Sent}
+use Rattle.drive_scene.specs.declared.event.Arrival.TheVariants as arrival
+use Rattle.drive_scene.specs.Scene.{Scene, Beat, capacity, scene_after, scene_at_start}
+use Rattle.drive_scene.specs.Run.{Run, scene_of, beat_of}
+use Rattle.drive_scene.specs.declared.answer.Waiting.{Waiting}
+use Rattle.drive_scene.specs.Able.{picked}
+use Rattle.drive_scene.specs.Turning.{initiator_of, label_of_pick}
 use Rattle.std.specs.Option.{option_map}
 use Rattle.std.specs.List.{cons_option}
 use Rattle.script_runner.specs.Each.{Each}
@@ -268,11 +268,15 @@ pub script_done : (start now new : Run) (order so_far next : Option ℕ) (lines 
     → CarriesOut start order lines new
 script_done start now new order so_far next lines sends it carried =
     let before = it.leads in
+    let was = it.few in
+    let few = carried.few in
+    let turns = phase_of_rest now sends it.at_rest.idle in
     record {
       own = before.own ++ carried.own;
       beats = carried.beats ∙ ap (λ (bs : List Beat). bs ++ carried.own) before.beats ∙ append_assoc (beats_of start) before.own carried.own;
       size = carried.size ∙ before.size;
       primary = carried.primary ∙ before.primary;
+      few = omega arith;
       carried = before.completes carried.own (same_phase sends (lines_of it.waiting) so_far (scene_of now) carried.own it.waits carried.phase);
     }
 

@@ -11,9 +11,9 @@ use Rattle.block_machine.specs.declared.entry.Entry.{Entry}
 use Rattle.block_machine.specs.declared.turn.Label.TheVariants as label
 use Rattle.block_machine.specs.State.{State, Duty}
 use Rattle.block_machine.specs.Steps.{begun, entries_after}
-use Rattle.drive_core.specs.Scene.{Scene, Beat, capacity, scene_after, window_after}
-use Rattle.drive_core.specs.GoodTurn.{GoodTurn, window_at_most}
-use Rattle.script_runner.specs.Measure.{steps_of_member, turns_left, turns_a_step, sum_upto}
+use Rattle.drive_scene.specs.Scene.{Scene, Beat, capacity, scene_after, window_after}
+use Rattle.drive_scene.specs.GoodTurn.{GoodTurn, window_at_most}
+use Rattle.script_runner.specs.Measure.{steps_of_member, turns_left, turns_a_step, turns_to_move, sum_upto}
 use Rattle.script_runner.proofs.Places.{put_same, put_other}
 use Rattle.script_runner.proofs.Entries.{working}
 use Rattle.script_runner.proofs.Members.{AreSteps, entries_steps, steps_left, by_duty, by_member, number_of}
@@ -43,17 +43,17 @@ sum_at_most f g (suc n) le = let here = le (suc n) in let rest = sum_at_most f g
 
 -- the turns of a command by what is known of it
 abbrev pub of_command : Option Member → Duty → ℕ → ℕ
-of_command o duty w = option_map_or (λ m. turns_a_step * by_duty m duty + (window_at_most - w)) o 0
+of_command o duty w = option_map_or (λ m. turns_a_step * by_duty m duty + (window_at_most - w) + turns_to_move) o 0
 
 pub turns_is : (s : Scene) (c : ℕ) → turns_left s c ≡ of_command (member_of s.hist.set c) (s.hist.duties c) (length (s.windows c))
 turns_is s c = go (member_of s.hist.set c) refl
   where
     go : (o : Option Member) → member_of s.hist.set c ≡ o
-        → option_map_or (λ m. turns_a_step * steps_of_member s.hist m + (window_at_most - length (s.windows c))) o 0 ≡ of_command o (s.hist.duties c) (length (s.windows c))
+        → option_map_or (λ m. turns_a_step * steps_of_member s.hist m + (window_at_most - length (s.windows c)) + turns_to_move) o 0 ≡ of_command o (s.hist.duties c) (length (s.windows c))
     go None is = refl
     go (Some m) is = rw (number_of c s.hist.set m is) refl
 
-bounded : (o : Option Member) (duty : Duty) (w : ℕ) → of_command o duty w ≤ 51 * option_map_or (λ m. by_duty m duty) o 0 + 50
+bounded : (o : Option Member) (duty : Duty) (w : ℕ) → of_command o duty w ≤ 309 * option_map_or (λ m. by_duty m duty) o 0 + 308
 bounded None duty w = omega arith
 bounded (Some m) duty w = omega arith
 
@@ -99,14 +99,14 @@ module _ (s : Scene) (c : ℕ) (ops : List Op) (m : Member) (is_in : member_of s
       let h : length (s.windows c ++ ops) ≤ 50 = subst (λ (w : List Op). length w ≤ 50) long (good.window c) in rw length-append at h) in
       let window : length (k.windows c) ≡ length (s.windows c) + length ops = ap length (put_same c c (s.windows c ++ ops) s.windows refl) ∙ length-append (s.windows c) ops in
       let duty : k.hist.duties c ≡ record (s.hist.duties c) { dirty_then = s.hist.dirty } = put_same c c (record (s.hist.duties c) { dirty_then = s.hist.dirty }) s.hist.duties refl in
-      let after : turns_left k c ≡ 51 * by_duty m (s.hist.duties c) + (50 - (length (s.windows c) + length ops)) = turns_is k c ∙ (rw (is_in, duty, window) refl) in
-      let before : turns_left s c ≡ 51 * by_duty m (s.hist.duties c) + (50 - length (s.windows c)) = turns_is s c ∙ (rw is_in refl) in
+      let after : turns_left k c ≡ 309 * by_duty m (s.hist.duties c) + (50 - (length (s.windows c) + length ops)) + 258 = turns_is k c ∙ (rw (is_in, duty, window) refl) in
+      let before : turns_left s c ≡ 309 * by_duty m (s.hist.duties c) + (50 - length (s.windows c)) + 258 = turns_is s c ∙ (rw is_in refl) in
       omega arith
   work_own (e ∷ entries) good =
       let k = scene_after s (work_on c (e ∷ entries) ops) in
       let steps = (steps_of_turn (e ∷ entries) good).lower in
       let begin = as_begun in
-      let before : turns_left s c ≡ 51 * by_duty m (s.hist.duties c) + (50 - length (s.windows c)) = turns_is s c ∙ (rw is_in refl) in
+      let before : turns_left s c ≡ 309 * by_duty m (s.hist.duties c) + (50 - length (s.windows c)) + 258 = turns_is s c ∙ (rw is_in refl) in
       let was = by_member s.hist c m is_in in
       let is = turns_is k c in
       let now = steps_is k.hist c in

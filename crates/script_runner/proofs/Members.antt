@@ -25,7 +25,7 @@ use Rattle.block_machine.specs.Entries.{entry_lawful, is_owed, may_start, works_
 use Rattle.block_machine.specs.Plans.{first_plan}
 use Rattle.block_machine.specs.Steps.{entry_after, entries_after, duties_done}
 use Rattle.block_machine.proofs.Booleans.{both, not_is}
-use Rattle.drive_core.specs.GoodTurn.{is_entry_of}
+use Rattle.drive_scene.specs.GoodTurn.{is_entry_of}
 use Rattle.script_runner.specs.Measure.{steps_of, steps_asked, steps_of_member}
 use Rattle.script_runner.proofs.Places.{put_same, put_other}
 use Rattle.script_runner.proofs.Steps.{next_lowers, first_few}

@@ -10,9 +10,9 @@ use Rattle.block_machine.specs.declared.turn.Label.TheVariants as label
 use Rattle.block_machine.specs.State.{State}
 use Rattle.block_machine.specs.Steps.{begun, entries_after, entry_after, set_after}
 use Rattle.block_machine.specs.Turns.{entries_lawful}
-use Rattle.drive_core.specs.declared.event.Event.TheVariants as event
-use Rattle.drive_core.specs.Scene.{Scene, capacity}
-use Rattle.drive_core.specs.Run.{Run, scene_of}
+use Rattle.drive_scene.specs.declared.event.Event.TheVariants as event
+use Rattle.drive_scene.specs.Scene.{Scene, capacity}
+use Rattle.drive_scene.specs.Run.{Run, scene_of}
 use Rattle.script_runner.specs.Each.{Each}
 use Rattle.script_runner.specs.Phasing.{Happens, MakesTurn}
 use Rattle.script_runner.proofs.Beats.{next_turn, scene_next}

@@ -22,8 +22,8 @@ use Rattle.platter_model.specs.Sector.{is_sector, left_of, meant_after, meant}
 use Rattle.sector_store.specs.Maps.{records_of}
 use Rattle.sector_store.specs.State.{placed}
 use Rattle.sector_store.specs.Factory.{block_at, zero_block, zero_blocks, first_map, factory_payloads}
-use Rattle.drive_core.specs.Scene.{Scene, Beat, scene_at_start, scene_after}
-use Rattle.drive_core.specs.GoodTurn.{GoodTurn, IsBlockData, WritesBlockData}
+use Rattle.drive_scene.specs.Scene.{Scene, Beat, scene_at_start, scene_after}
+use Rattle.drive_scene.specs.GoodTurn.{GoodTurn, IsBlockData, WritesBlockData}
 
 -- a payload that may be missing is a block's data where there is one
 abbrev pub IsOwn : Lba → Option Payload → Type 0

@@ -11,15 +11,15 @@ use Rattle.platter_model.specs.TrueLog.{is_off}
 use Rattle.task_set.specs.declared.member.Member.{Member}
 use Rattle.block_machine.specs.Attentions.{initiators}
 use Rattle.block_machine.proofs.Booleans.{both, and_both}
-use Rattle.drive_core.specs.declared.event.Arrival.{Arrival as Sent}
-use Rattle.drive_core.specs.declared.answer.Waiting.{Waiting}
-use Rattle.drive_core.specs.declared.answer.Pick.{Pick}
-use Rattle.drive_core.specs.declared.answer.Pick.TheVariants.{Arrive, Work}
-use Rattle.drive_core.specs.Scene.{Scene, Beat, scene_after}
-use Rattle.drive_core.specs.Run.{Run, scene_of}
-use Rattle.drive_core.specs.Able.{able, arrives, is_able, is_spent, picked, pick_of, nothing_waiting, turns_at_most}
-use Rattle.drive_core.specs.Progress.{SomebodyIsAble}
-use Rattle.drive_core.specs.Turning.{label_of_pick}
+use Rattle.drive_scene.specs.declared.event.Arrival.{Arrival as Sent}
+use Rattle.drive_scene.specs.declared.answer.Waiting.{Waiting}
+use Rattle.drive_scene.specs.declared.answer.Pick.{Pick}
+use Rattle.drive_scene.specs.declared.answer.Pick.TheVariants.{Arrive, Work}
+use Rattle.drive_scene.specs.Scene.{Scene, Beat, scene_after}
+use Rattle.drive_scene.specs.Run.{Run, scene_of}
+use Rattle.drive_scene.specs.Able.{able, arrives, is_able, is_spent, picked, pick_of, nothing_waiting, turns_at_most}
+use Rattle.drive_scene.specs.Progress.{SomebodyIsAble}
+use Rattle.drive_scene.specs.Turning.{label_of_pick}
 use Rattle.script_runner.specs.Arrivals.{Sends, sends_of, arrived_by, arrived_in, left_of}
 use Rattle.script_runner.specs.Order.{drawn, number_of, order_after}
 use Rattle.script_runner.specs.Phase.{is_of_phase, waiting_of, InHand, one_turn_on, IsPicked}
@@ -29,6 +29,7 @@ use Rattle.script_runner.specs.Measure.{turns_of_phase}
 use Rattle.script_runner.proofs.Beats.{along_more, scene_on}
 use Rattle.script_runner.proofs.Picks.{picked_on, not_spent}
 use Rattle.script_runner.proofs.Underway.{InPhase}
+use Rattle.drive_scene.proofs.Walking.{able-is}
 
 -- one item more
 all_more : {A : Type 0} (p : A → Bool) (xs : List A) (x : A) → list_all p xs ≡ true → p x ≡ true → list_all p (xs ++ x ∷ []) ≡ true
@@ -150,7 +151,9 @@ all_sent queues eight none i = absurd (omega arith)
 
 -- what may come where nothing waits
 able_alone : (s : Scene) (w : Waiting) → able s w ≡ [] → able s nothing_waiting ≡ []
-able_alone s w e = (both_empty (map Arrive (filter (arrives w) initiators)) (map (λ m. Work m.task.c) (filter (is_able s) s.hist.set)) e).1
+able_alone s w e =
+    able-is s nothing_waiting
+    ∙ (both_empty (map Arrive (filter (arrives w) initiators)) (map (λ m. Work m.task.c) (filter (is_able s) s.hist.set)) (sym (able-is s w) ∙ e)).1
 
 -- no command is in where nobody is able
 none_in : (s : Scene) → SomebodyIsAble s → able s nothing_waiting ≡ [] → s.hist.set ≡ []
@@ -172,7 +175,7 @@ phase_done old now order so_far sends queues x phase eight on room none progress
     let unspent = not_spent_in old now order so_far sends left phase room in
     let unpicked : picked (scene_of now) (waiting_of left) x ≡ None = (let h : pick_of now (waiting_of left) x ≡ picked (scene_of now) (waiting_of left) x = rw (on, unspent) refl in sym h ∙ none) in
     let unable = none_able (able (scene_of now) (waiting_of left)) x unpicked in
-    let parts = both_empty (map Arrive (filter (arrives (waiting_of left)) initiators)) (map (λ (m : Member). Work m.task.c) (filter (is_able (scene_of now)) (scene_of now).hist.set)) unable in
+    let parts = both_empty (map Arrive (filter (arrives (waiting_of left)) initiators)) (map (λ (m : Member). Work m.task.c) (filter (is_able (scene_of now)) (scene_of now).hist.set)) (sym (able-is (scene_of now) (waiting_of left)) ∙ unable) in
     let sent = all_sent queues eight (map_empty Arrive (filter (arrives (waiting_of left)) initiators) parts.0) in
     let empty = none_in (scene_of now) progress (able_alone (scene_of now) (waiting_of left) unable) in
     let scene = scene_on old now phase.own phase.beats phase.size phase.primary in

@@ -1,19 +1,19 @@
 -- What may be picked isn't refused.
-use Rattle.std.proofs.Common.{◌≡◌, ◌≢◌, refl, ℕ, ◌%◌, ◌<◌, ◌≤◌, Bool, true, false, not, List, [], ◌∷◌, map, length, arith, Some, None, Option, cond}
+use Rattle.std.proofs.Common.{◌≡◌, ◌≢◌, refl, ℕ, ◌%◌, ◌<◌, ◌≤◌, Bool, true, false, not, List, [], ◌∷◌, map, length, arith, Some, None, Option, cond, sym, subst}
 use Rattle.std.specs.Prelude.{filter, is_none, ◌==◌, ◌||◌}
 use Rattle.std.proofs.lemmas.Bool.Decides.{nat_tests}
 use Rattle.task_set.specs.declared.member.Member.{Member}
 use Rattle.task_set.specs.Members.{member_of}
 use Rattle.platter_model.specs.TrueLog.{is_off}
 use Rattle.block_machine.specs.Attentions.{initiators}
-use Rattle.drive_core.specs.declared.answer.Waiting.{Waiting}
-use Rattle.drive_core.specs.declared.answer.Pick.{Pick}
-use Rattle.drive_core.specs.declared.answer.Pick.TheVariants.{Arrive, Work, Job, Scan, Destage}
-use Rattle.drive_core.specs.declared.event.Event.TheVariants as event
-use Rattle.drive_core.specs.declared.event.Event.{Event}
-use Rattle.drive_core.specs.Scene.{Scene}
-use Rattle.drive_core.specs.Run.{Run, scene_of}
-use Rattle.drive_core.specs.Able.{arrives, able, is_able, picked, pick_of, refusal, refusal_of_work, work_refused, is_spent, turns_at_most}
+use Rattle.drive_scene.specs.declared.answer.Waiting.{Waiting}
+use Rattle.drive_scene.specs.declared.answer.Pick.{Pick}
+use Rattle.drive_scene.specs.declared.answer.Pick.TheVariants.{Arrive, Work, Job, Scan, Destage}
+use Rattle.drive_scene.specs.declared.event.Event.TheVariants as event
+use Rattle.drive_scene.specs.declared.event.Event.{Event}
+use Rattle.drive_scene.specs.Scene.{Scene}
+use Rattle.drive_scene.specs.Run.{Run, scene_of}
+use Rattle.drive_scene.specs.Able.{arrives, able, is_able, picked, pick_of, refusal, refusal_of_work, work_refused, is_spent, turns_at_most}
 use Rattle.script_runner.specs.Arrivals.{Sends}
 use Rattle.script_runner.specs.Phase.{waiting_of}
 use Rattle.script_runner.specs.Phasing.{Fetches}
@@ -21,6 +21,7 @@ use Rattle.script_runner.specs.Each.{Each}
 use Rattle.script_runner.specs.Ages.{Between}
 use Rattle.script_runner.proofs.Ages.{own_member}
 use Rattle.script_runner.proofs.Each.{each_append, each_filter, each_map, each_at, each_weaker}
+use Rattle.drive_scene.proofs.Walking.{able-is}
 
 -- what a pick says
 abbrev pub CanCome : Scene → Sends → Pick → Type 0
@@ -44,11 +45,11 @@ module _ (s : Scene) (sends : Sends) where
   work_can m is able coming = rw is (none_is (work_refused s m.task.c m) able)
 
   pub all_can : Between 0 s.hist.set s.hist.arrived → Each (CanCome s sends) (able s (waiting_of sends))
-  all_can ages = each_append (CanCome s sends) (map Arrive (filter (arrives (waiting_of sends)) initiators)) (map (λ m. Work m.task.c) (filter (is_able s) s.hist.set))
+  all_can ages = subst (Each (CanCome s sends)) (sym (able-is s (waiting_of sends))) (each_append (CanCome s sends) (map Arrive (filter (arrives (waiting_of sends)) initiators)) (map (λ m. Work m.task.c) (filter (is_able s) s.hist.set))
       (each_map Arrive (CanCome s sends) (filter (arrives (waiting_of sends)) initiators) (each_filter (λ i. CanCome s sends (Arrive i)) (arrives (waiting_of sends)) initiators arrivals_can))
       (each_map (λ (m : Member). Work m.task.c) (CanCome s sends) (filter (is_able s) s.hist.set)
       (each_filter (λ m. CanCome s sends (Work m.task.c)) (is_able s) s.hist.set
-      (each_weaker (λ (m : Member). member_of s.hist.set m.task.c ≡ Some m) (λ (m : Member). is_able s m ≡ true → CanCome s sends (Work m.task.c)) s.hist.set work_can (own_member 0 s.hist.set s.hist.arrived ages))))
+      (each_weaker (λ (m : Member). member_of s.hist.set m.task.c ≡ Some m) (λ (m : Member). is_able s m ≡ true → CanCome s sends (Work m.task.c)) s.hist.set work_can (own_member 0 s.hist.set s.hist.arrived ages)))))
 
   pub picked_can : (x : ℕ) (p : Pick) → Between 0 s.hist.set s.hist.arrived → picked s (waiting_of sends) x ≡ Some p → CanCome s sends p
   picked_can x p ages is = each_at (CanCome s sends) (able s (waiting_of sends)) (x % length (able s (waiting_of sends))) p (all_can ages) is

@@ -6,7 +6,7 @@ use Rattle.std.proofs.lemmas.Bool.{cases_eq}
 use Rattle.std.proofs.lemmas.Bool.Decides.{nat_tests}
 use Rattle.disk_base.specs.At.{put_at}
 use Rattle.block_machine.specs.Attentions.{initiators}
-use Rattle.drive_core.specs.declared.event.Arrival.{Arrival as Sent}
+use Rattle.drive_scene.specs.declared.event.Arrival.{Arrival as Sent}
 use Rattle.script_runner.specs.Arrivals.{sends_of, Taken}
 
 pub put_same : {V : Type 0} (k n : ℕ) (v : V) (f : ℕ → V) → n ≡ k → put_at k v f n ≡ v

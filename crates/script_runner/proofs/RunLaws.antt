@@ -22,10 +22,10 @@ use Rattle.block_machine.proofs.BlockLaws.{beginnings_are_legal}
 use Rattle.block_machine.proofs.Booleans.{and_both}
 use Rattle.block_machine.proofs.Counting.{commands_are_accounted_for}
 use Rattle.task_set.specs.Members.{numbers}
-use Rattle.drive_core.specs.Scene.{Scene, Beat, capacity, scene_after, scene_at_start}
-use Rattle.drive_core.specs.Evidence.{Shows}
-use Rattle.drive_core.specs.GoodTurn.{GoodTurn}
-use Rattle.drive_core.specs.Run.{beat_of}
+use Rattle.drive_scene.specs.Scene.{Scene, Beat, capacity, scene_after, scene_at_start}
+use Rattle.drive_scene.specs.Evidence.{Shows}
+use Rattle.drive_scene.specs.GoodTurn.{GoodTurn}
+use Rattle.drive_scene.specs.Run.{beat_of}
 use Rattle.script_runner.specs.Order.{order_after}
 use Rattle.script_runner.specs.Phase.{ByOrder}
 use Rattle.script_runner.specs.CarriedOut.{CarryOut}

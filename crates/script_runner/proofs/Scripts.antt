@@ -1,7 +1,7 @@
 -- A script that was read can be carried out: its lines are served, and take fewer turns than a drive can number.
-use Rattle.std.proofs.Common.{◌≡◌, sym, refl, subst, ℕ, ◌+◌, ◌*◌, ◌<◌, ◌≤◌, zero, suc, Bool, true, false, not, List, [], ◌∷◌, ◌++◌, arith, nat_lt, Result, Ok, Err, IfOk, cond, length}
+use Rattle.std.proofs.Common.{◌≡◌, ◌∙◌, ap, sym, refl, subst, ℕ, ◌+◌, ◌*◌, ◌<◌, ◌≤◌, zero, suc, Bool, true, false, not, List, [], ◌∷◌, ◌++◌, arith, nat_lt, Result, Ok, Err, IfOk, cond, length}
 use Rattle.std.proofs.lemmas.Bool.{leb-true, ltb-true}
-use Rattle.std.specs.Prelude.{◌==◌, ◌&&◌, ◌||◌, nat_le, codes, is_none, All, slice_index}
+use Rattle.std.specs.Prelude.{◌&&◌, nat_le, codes, is_none, All, sum_by}
 use Rattle.std.specs.List.{list_all, list_any}
 use Rattle.std.specs.Str.{bytes_eq}
 use Rattle.std.proofs.lemmas.List.{length_push}
@@ -23,19 +23,20 @@ use Rattle.script_text.specs.Measures.{Measures, measures_of, given_or_default, 
 use Rattle.script_text.specs.Grammar.{measures_from, disk_of, primary_of, line_of, well_formed, fitting}
 use Rattle.script_text.specs.Forms.{form_of}
 use Rattle.script_text.specs.Phase.{is_taken}
-use Rattle.script_text.specs.Served.{is_served, is_served_code}
+use Rattle.script_text.specs.Served.{is_served}
 use Rattle.script_text.specs.Weight.{weight_of}
 use Rattle.script_text.specs.Proper.{IsProper}
 use Rattle.script_text.specs.Standing.{Reading, at_start, drive_of, capacity_of, with_measures, with_primary, with_line, with_words, with_all_words, with_text, takes_primary, is_world, within_lines, is_empty, is_printable, is_comment}
 use Rattle.script_text.specs.Meaning.{Asked, Refusal, goes_on, behind_lines, asked_at_end, ends, lines_of, script_of, asked_by}
 use Rattle.script_text.proofs.StepLemmas.{through, past, required, either_way}
 use Rattle.script_text.proofs.ProperLines.{IsSector, sector_range, line_proper}
-use Rattle.drive_core.specs.Able.{turns_at_most}
-use Rattle.drive_core.specs.Served as drive
+use Rattle.drive_scene.specs.Able.{turns_at_most}
+use Rattle.report_text.specs.declared.run.Run.{Run}
 use Rattle.script_runner.specs.Each.{Each}
-use Rattle.script_runner.specs.Measure.{turns_of_line, turns_of_lines}
-use Rattle.script_runner.specs.Script.{HasMeasures, IsServedLine, CanBeCarriedOut}
-use Rattle.script_runner.proofs.Costs.{line_cheap}
+use Rattle.script_runner.specs.Measure.{turns_of_line, turns_of_lines, turns_by_weight}
+use Rattle.script_runner.specs.Script.{blocks_of, HasMeasures, IsServedLine, CanBeCarriedOut}
+use Rattle.script_runner.specs.Outcome.{HasFewTurns}
+use Rattle.script_runner.proofs.Costs.{lines_few}
 use Rattle.script_runner.proofs.Each.{each_append, each_weaker}
 
 -- a line that is served, on a drive of so many sectors
@@ -52,7 +53,7 @@ record Sound (n : ℕ) (s : Reading) : Type 0 where
   lines : Each (IsGoodLine (total_of (drive_of s))) s.lines
   counted : length s.lines < n
   most : length s.lines ≤ 65536
-  turns : turns_of_lines (capacity_of (drive_of s)) s.lines ≤ 52650 * length s.lines + 2500 * s.weight
+  weighed : s.weight ≡ sum_by (weight_of (capacity_of (drive_of s))) s.lines
   light : s.weight ≤ 60000
 
 -- drives have at most 4096 sectors, and some
@@ -96,7 +97,7 @@ no_items [] e = refl
 no_items (x ∷ xs) e = absurd (cc)
 
 later : (n : ℕ) (s : Reading) → Sound n s → Sound (n + 1) s
-later n s sound = let c = sound.counted in record { limits = sound.limits; ascends = sound.ascends; few = sound.few; kept = sound.kept; lines = sound.lines; counted = omega arith; most = sound.most; turns = sound.turns; light = sound.light }
+later n s sound = let c = sound.counted in record { limits = sound.limits; ascends = sound.ascends; few = sound.few; kept = sound.kept; lines = sound.lines; counted = omega arith; most = sound.most; weighed = sound.weighed; light = sound.light }
 
 -- the `disk` line stands first
 measures_step : (n : ℕ) (s : Reading) (m : Measures) → Sound n s → is_within_limits m ≡ true → IfOk (with_measures n s m) (Sound (n + 1))
@@ -116,7 +117,7 @@ measures_step n s m sound within =
       lines = subst (Each (IsGoodLine (total_of m))) (sym lines) tt;
       counted = omega arith;
       most = rw lines (omega arith);
-      turns = rw lines (omega arith);
+      weighed = (let none : s.weight ≡ 0 = sound.weighed ∙ ap (sum_by (weight_of (capacity_of (drive_of s)))) lines in none ∙ (rw lines refl));
       light = sound.light;
     }))
 
@@ -152,7 +153,7 @@ primary_step n s p sound at =
       lines = sound.lines;
       counted = omega arith;
       most = sound.most;
-      turns = sound.turns;
+      weighed = sound.weighed;
       light = sound.light;
     })))
 
@@ -169,11 +170,8 @@ line_step n s line sound proper =
     let weight = leb-true (s.weight + weight_of (capacity_of (drive_of s)) line) 60000 parts.1 in
     let counted = sound.counted in
     let one = length_push s.lines line in
-    let total = sectors (drive_of s) sound.limits in
-    let small = total.1 in
-    let cheap = line_cheap (capacity_of (drive_of s)) line (omega arith) served in
-    let before = sound.turns in
-    let sum = sum_by-append (turns_of_line (capacity_of (drive_of s))) s.lines (line ∷ []) in
+    let before = sound.weighed in
+    let sum = sum_by-append (weight_of (capacity_of (drive_of s))) s.lines (line ∷ []) in
     record {
       limits = sound.limits;
       ascends = sound.ascends;
@@ -182,7 +180,7 @@ line_step n s line sound proper =
       lines = each_append (IsGoodLine (total_of (drive_of s))) s.lines (line ∷ []) sound.lines (record { proper = proper; served = served }, tt);
       counted = omega arith;
       most = omega arith;
-      turns = omega arith;
+      weighed = omega arith;
       light = weight;
     }))))
 
@@ -222,10 +220,11 @@ lines_sound n s [] sound = (n, sound)
 lines_sound n s (line ∷ lines) sound = goes_on_sound n (with_text n s line) (λ t. behind_lines (n + 1) t lines) (text_step n s line sound) (λ t next. lines_sound (n + 1) t lines next)
 
 begins : Sound 1 at_start
-begins = record { limits = refl; ascends = tt; few = omega arith; kept = omega arith; lines = tt; counted = omega arith; most = omega arith; turns = omega arith; light = omega arith }
+begins = record { limits = refl; ascends = tt; few = omega arith; kept = omega arith; lines = tt; counted = omega arith; most = omega arith; weighed = refl; light = omega arith }
 
 -- what is asked for can be carried out
 record IsGoodAsked (asked : Asked) : Type 0 where
+  limits : is_within_limits (given_or_default asked.measures) ≡ true
   primary : AscendsWithin 16 (total_of (given_or_default asked.measures)) asked.primary
   few : length asked.primary ≤ 128
   kept : length asked.primary ≤ (given_or_default asked.measures).reserved
@@ -238,18 +237,24 @@ asked_sound s sound = go s.waiting.something
     it : Sound sound.0 s
     it = sound.1
 
+    few_turns : (lines : List Line) → turns_of_lines (capacity_of (drive_of s)) lines ≤ turns_by_weight (capacity_of (drive_of s)) lines
+    few_turns lines = let total = (sectors (drive_of s) it.limits).1 in lines_few (capacity_of (drive_of s)) lines (omega arith)
+
     go : (b : Bool) → IsGoodAsked (record { measures = s.measures; primary = s.primary; lines = cond b (s.lines ++ Go ∷ []) s.lines })
     go false =
-        let turns = it.turns in
+        let turns = few_turns s.lines in
+        let weighed = it.weighed in
         let most = it.most in
         let light = it.light in
-        record { primary = it.ascends; few = it.few; kept = it.kept; lines = it.lines; turns = omega arith }
+        record { limits = it.limits; primary = it.ascends; few = it.few; kept = it.kept; lines = it.lines; turns = omega arith }
     go true =
-        let turns = it.turns in
+        let turns = few_turns s.lines in
+        let weighed = it.weighed in
         let most = it.most in
         let light = it.light in
         let sum = sum_by-append (turns_of_line (capacity_of (drive_of s))) s.lines (Go ∷ []) in
         record {
+          limits = it.limits;
           primary = it.ascends;
           few = it.few;
           kept = it.kept;
@@ -265,17 +270,9 @@ script_good : (bytes : List ℕ) (asked : Asked) → script_of bytes ≡ Ok aske
 unfolding script_of
 script_good bytes asked e = asked_of (behind_lines 1 at_start (lines_of bytes)) asked (lines_sound 1 at_start (lines_of bytes) begins) e
 
--- the codes of served lines are those that the drive serves
-regrouped : (a b c : Bool) → not (a || (b || c)) ≡ true → not (a || b || c) ≡ true
-regrouped true b c none = none
-regrouped false true c none = none
-regrouped false false c none = none
-
-same_codes : (code : ℕ) → is_served_code code ≡ true → drive.is_served_code code ≡ true
-same_codes code = regrouped (code == 0x07) (code == 0x15) (code == 0x55)
-
+-- a line that is served by its text is one that the drive serves
 served_line : (size : Size) (line : Line) → IsGoodLine (total_of (measures_of size)) line → IsServedLine size line
-served_line size (Command i t a cdb sent) good = same_codes (slice_index cdb 0) good.served
+served_line size (Command i t a cdb sent) good = good.served
 served_line size (Function i what) good = tt
 served_line size (World (Minutes n)) good = tt
 served_line size (World (Damage d)) good = (good.proper.sector, good.proper.within)
@@ -297,3 +294,17 @@ can_be_carried_out bytes script e size is =
       lines = each_all (IsServedLine size) script.lines (each_weaker (IsGoodLine (total_of (measures_of size))) (IsServedLine size) script.lines (served_line size) good.2);
       few = good.3;
     }
+
+-- and its drive has at most 4096 blocks
+pub few_blocks : (bytes : List ℕ) (script : Script) → script_of bytes ≡ Ok (asked_by script) → blocks_of script ≤ 4096
+few_blocks bytes script e =
+    let good = script_good bytes (asked_by script) e in
+    let total = (sectors (given_or_default (asked_by script).measures) good.limits).1 in
+    omega arith
+
+-- so its run has few turns
+pub bounded_run : (bytes : List ℕ) (script : Script) (run : Run) → script_of bytes ≡ Ok (asked_by script) → run.script ≡ script → length run.turns ≤ turns_of_lines (blocks_of run.script) run.script.lines → HasFewTurns run
+bounded_run bytes script run e same few =
+    let small : blocks_of run.script ≤ 4096 = subst (λ (s : Script). blocks_of s ≤ 4096) (sym same) (few_blocks bytes script e) in
+    let most = lines_few (blocks_of run.script) run.script.lines small in
+    omega arith

@@ -23,18 +23,18 @@ use Rattle.script_runner.proofs.Ages.{within}
 use Rattle.script_runner.proofs.Members.{number_of}
 use Rattle.script_runner.proofs.Lowering.{work_on, work_lower, sum_less}
 use Rattle.script_runner.proofs.Arriving.{arrival_lower, function_lower}
-use Rattle.drive_core.specs.declared.event.Arrival.{Arrival}
-use Rattle.drive_core.specs.declared.event.Arrival.TheVariants.{Command, Function}
-use Rattle.drive_core.specs.declared.event.Event.{Event}
-use Rattle.drive_core.specs.declared.event.Event.TheVariants as event
-use Rattle.drive_core.specs.declared.answer.Pick.{Pick}
-use Rattle.drive_core.specs.declared.answer.Pick.TheVariants.{Arrive, Work, Job, Scan, Destage}
-use Rattle.drive_core.specs.Scene.{Scene, Beat, capacity, scene_after, scene_at_start}
-use Rattle.drive_core.specs.GoodTurn.{GoodTurn}
-use Rattle.drive_core.specs.Run.{Run, IsGoodRun, scene_of, beat_of}
-use Rattle.drive_core.specs.declared.answer.TurnAnswer.TheVariants as answer
-use Rattle.drive_core.specs.Able.{refusal_of_work, work_refused}
-use Rattle.drive_core.specs.Turning.{initiator_of}
+use Rattle.drive_scene.specs.declared.event.Arrival.{Arrival}
+use Rattle.drive_scene.specs.declared.event.Arrival.TheVariants.{Command, Function}
+use Rattle.drive_scene.specs.declared.event.Event.{Event}
+use Rattle.drive_scene.specs.declared.event.Event.TheVariants as event
+use Rattle.drive_scene.specs.declared.answer.Pick.{Pick}
+use Rattle.drive_scene.specs.declared.answer.Pick.TheVariants.{Arrive, Work, Job, Scan, Destage}
+use Rattle.drive_scene.specs.Scene.{Scene, Beat, capacity, scene_after, scene_at_start}
+use Rattle.drive_scene.specs.GoodTurn.{GoodTurn}
+use Rattle.drive_scene.specs.Run.{Run, IsGoodRun, scene_of, beat_of}
+use Rattle.drive_scene.specs.declared.answer.TurnAnswer.TheVariants as answer
+use Rattle.drive_scene.specs.Able.{refusal_of_work, work_refused}
+use Rattle.drive_scene.specs.Turning.{initiator_of}
 use Rattle.script_runner.specs.Each.{Each}
 use Rattle.script_runner.specs.Ages.{Between}
 use Rattle.script_runner.specs.Arrivals.{Sends, sent_by, arrival_of_entry}

@@ -3,8 +3,8 @@ use Rattle.std.specs.Prelude.{◌≡◌, ℕ, ◌+◌, ◌≤◌, IsTrue, List, 
 use Rattle.std.specs.List.{list_all}
 use Rattle.geometry_map.specs.Size.{capacity_of}
 use Rattle.script_text.specs.declared.script.Line.{Line}
-use Rattle.drive_core.specs.Scene.{Beat}
-use Rattle.drive_core.specs.Run.{Run, scene_of}
+use Rattle.drive_scene.specs.Scene.{Beat}
+use Rattle.drive_scene.specs.Run.{Run, scene_of}
 use Rattle.script_runner.specs.Arrivals.{Sends, arrived_in}
 use Rattle.script_runner.specs.Order.{order_after}
 use Rattle.script_runner.specs.Phase.{is_of_phase, ByOrder}

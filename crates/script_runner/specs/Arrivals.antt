@@ -5,10 +5,10 @@ use Rattle.block_machine.specs.declared.entry.Entry.{Entry}
 use Rattle.block_machine.specs.declared.entry.Entry.TheVariants as entry
 use Rattle.script_text.specs.declared.script.Line.{Line}
 use Rattle.script_text.specs.declared.script.Line.TheVariants as line
-use Rattle.drive_core.specs.declared.event.Arrival.{Arrival}
-use Rattle.drive_core.specs.declared.event.Arrival.TheVariants.{Command, Function}
-use Rattle.drive_core.specs.Scene.{Beat}
-use Rattle.drive_core.specs.Turning.{initiator_of}
+use Rattle.drive_scene.specs.declared.event.Arrival.{Arrival}
+use Rattle.drive_scene.specs.declared.event.Arrival.TheVariants.{Command, Function}
+use Rattle.drive_scene.specs.Scene.{Beat}
+use Rattle.drive_scene.specs.Turning.{initiator_of}
 
 -- what each initiator is to send, in order
 abbrev pub Sends : Type 0

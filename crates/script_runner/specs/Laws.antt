@@ -21,8 +21,8 @@ use Rattle.block_machine.specs.History.{legal, task_legal, state_after, entries_
 use Rattle.block_machine.specs.Laws.{tally_of}
 use Rattle.block_machine.specs.State.{State}
 use Rattle.block_machine.specs.Steps.{begun, entries_after}
-use Rattle.drive_core.specs.Scene.{Scene, Beat, capacity, scene_at_start, scene_after}
-use Rattle.drive_core.specs.Evidence.{IsGotShown, window_now}
+use Rattle.drive_scene.specs.Scene.{Scene, Beat, capacity, scene_at_start, scene_after}
+use Rattle.drive_scene.specs.Evidence.{IsGotShown, window_now}
 use Rattle.script_runner.specs.Run.{IsGood, beats_of, drive_run}
 
 -- a fact holds of the turns of each good run, over a disk of so many blocks

@@ -2,13 +2,13 @@
 use Rattle.std.specs.Prelude.{◌≡◌, ℕ, ◌+◌, ◌≤◌, List, [], ◌∷◌, ◌++◌, length, Option}
 use Rattle.geometry_map.specs.Size.{capacity_of}
 use Rattle.script_text.specs.declared.script.Line.{Line}
-use Rattle.drive_core.specs.Scene.{Beat}
-use Rattle.drive_core.specs.Run.{Run, scene_of}
+use Rattle.drive_scene.specs.Scene.{Beat}
+use Rattle.drive_scene.specs.Run.{Run, scene_of}
 use Rattle.script_runner.specs.Arrivals.{Sends, lines_of}
 use Rattle.script_runner.specs.Phase.{ByOrder}
 use Rattle.script_runner.specs.CarriedOut.{CarryOut}
 use Rattle.script_runner.specs.Phasing.{AreServed}
-use Rattle.script_runner.specs.Measure.{turns_of_line, turns_to_send}
+use Rattle.script_runner.specs.Measure.{turns_of_line, turns_of_lines, turns_to_send}
 use Rattle.script_runner.specs.Run.{beats_of}
 
 -- lines wait, and this is what they have sent
@@ -38,10 +38,11 @@ pub record TakesLine (old : Run) (order : Option ℕ) (sends : Sends) (line : Li
   pub leads : (waiting : List Line) → Wait waiting sends → (after : List Line) × Wait after left
       × ((rest : List Line) → Leads old order waiting (line ∷ rest) new next after rest)
 
--- the lines were carried out
+-- the lines were carried out, in no more turns than they take at most
 pub record CarriesOut (old : Run) (order : Option ℕ) (lines : List Line) (new : Run) : Type 0 where
   pub own : List Beat
   pub beats : beats_of new ≡ beats_of old ++ own
   pub size : new.size ≡ old.size
   pub primary : new.primary ≡ old.primary
+  pub few : length new.turns ≤ length old.turns + turns_of_lines (capacity_of old.size) lines
   pub carried : CarryOut ByOrder order (scene_of old) [] lines own

@@ -12,10 +12,11 @@ use Rattle.cdb_reader.specs.Read.{read_of}
 use Rattle.block_machine.specs.State.{State}
 use Rattle.script_text.specs.declared.script.Line.{Line}
 use Rattle.script_text.specs.declared.script.Line.TheVariants as line
-use Rattle.drive_core.specs.declared.event.Arrival.{Arrival}
-use Rattle.drive_core.specs.declared.event.Arrival.TheVariants.{Command, Function}
-use Rattle.drive_core.specs.Scene.{Scene, capacity}
-use Rattle.drive_core.specs.GoodTurn.{window_at_most}
+use Rattle.script_text.specs.Weight.{weight_of}
+use Rattle.drive_scene.specs.declared.event.Arrival.{Arrival}
+use Rattle.drive_scene.specs.declared.event.Arrival.TheVariants.{Command, Function}
+use Rattle.drive_scene.specs.Scene.{Scene, capacity}
+use Rattle.drive_scene.specs.GoodTurn.{window_at_most}
 use Rattle.script_runner.specs.Arrivals.{Sends}
 
 -- the entries of a command that still owes a plan: of a block that is read, or written, two; and its end
@@ -42,18 +43,30 @@ steps_asked (Ok (ReassignBlocks blocks)) = length blocks + 2
 steps_asked (Ok other) = 2
 steps_asked (Err sense) = 2
 
--- from one entry of a command to its next there are at most the tries of all stages
+-- a move of a block takes at most a write to each of 128 spares and a check of it, and the commit of the last
+abbrev pub turns_of_move : ℕ
+turns_of_move = 2 * 128 + 1
+
+-- with the turn that opens it; from one entry of a command to its next one move is opened at most
+abbrev pub turns_to_move : ℕ
+turns_to_move = turns_of_move + 1
+
+-- an entry, and before it the tries of all stages and a move
 abbrev pub turns_a_step : ℕ
-turns_a_step = window_at_most + 1
+turns_a_step = window_at_most + turns_to_move + 1
+
+-- a step of the scan tries all stages, at most 25, and may move what it found
+abbrev pub turns_of_scan : ℕ
+turns_of_scan = 25 + turns_of_move
 
 -- the entries of a command that is in: before its start that and what it asks for, and then what it owes
 abbrev pub steps_of_member : State → Member → ℕ
 steps_of_member h m = (if m.started then 0 else steps_asked (h.duties m.task.c).asks + 1) + option_map_or steps_of (h.duties m.task.c).owes 0
 
--- the turns of a command: none where it isn't in
+-- the turns of a command: none where it isn't in. Beside its entries it has the tries that its window has room for, and a move
 abbrev pub turns_left : Scene → ℕ → ℕ
 turns_left s c =
-    option_map_or (λ m. turns_a_step * steps_of_member s.hist m + (window_at_most - length (s.windows c))) (member_of s.hist.set c) 0
+    option_map_or (λ m. turns_a_step * steps_of_member s.hist m + (window_at_most - length (s.windows c)) + turns_to_move) (member_of s.hist.set c) 0
 
 abbrev pub sum_upto : (ℕ → ℕ) → ℕ → ℕ
 sum_upto f zero = 0
@@ -61,7 +74,8 @@ sum_upto f (suc n) = sum_upto f n + f (suc n)
 
 -- the turns of what is still to arrive, on a drive of so many blocks
 abbrev pub turns_of_arrival : ℕ → Arrival → ℕ
-turns_of_arrival blocks (Command i tag attribute cdb sent) = 1 + turns_a_step * (steps_asked (read_of cdb sent blocks) + 1) + window_at_most
+turns_of_arrival blocks (Command i tag attribute cdb sent) =
+    1 + turns_a_step * (steps_asked (read_of cdb sent blocks) + 1) + window_at_most + turns_to_move
 turns_of_arrival blocks (Function i what) = 1
 
 -- of each of the eight initiators
@@ -75,7 +89,21 @@ turns_of_phase s sends = turns_to_send (capacity s) sends + sum_upto (turns_left
 -- at most so many turns does a line have
 abbrev pub turns_of_line : ℕ → Line → ℕ
 turns_of_line blocks (line.Command i tag attribute cdb sent) = turns_of_arrival blocks (Command i tag attribute cdb sent)
+turns_of_line blocks (line.Scan count) = turns_of_scan * count
+turns_of_line blocks (line.Destage count) = count
 turns_of_line blocks other = 1
 
 abbrev pub turns_of_lines : ℕ → List Line → ℕ
 turns_of_lines blocks lines = sum_by (turns_of_line blocks) lines
+
+-- a command has at most 5 entries, and 64 for each unit of its weight: by what a line is and by what it weighs it has at most
+-- so many turns
+abbrev pub turns_a_line : ℕ
+turns_a_line = 1 + turns_a_step * (5 + 1) + window_at_most + turns_to_move
+
+abbrev pub turns_a_weight : ℕ
+turns_a_weight = turns_a_step * 64
+
+-- so many turns do lines have at most by their number and their weight
+abbrev pub turns_by_weight : ℕ → List Line → ℕ
+turns_by_weight blocks lines = turns_a_line * length lines + turns_a_weight * sum_by (weight_of blocks) lines

@@ -1,6 +1,6 @@
 -- The order of turns that may be asked for: which of those that may come is next is drawn from a number.
 use Rattle.std.specs.Prelude.{ℕ, ◌+◌, ◌*◌, ◌/◌, ◌%◌, List, fold, Option, Some, None}
-use Rattle.drive_core.specs.Scene.{Beat}
+use Rattle.drive_scene.specs.Scene.{Beat}
 
 -- the number that the order of turns is drawn from, one turn on; none where no order was asked for
 abbrev pub drawn : Option ℕ → Option ℕ

@@ -13,6 +13,8 @@ use Rattle.report_text.specs.Report.{report_of}
 use Rattle.script_runner.specs.declared.outcome.Outcome.{Outcome}
 use Rattle.script_runner.specs.declared.outcome.Outcome.TheVariants.{Served, Usage, TooLong, Refused, ReadFault, WriteFault, NoMemory}
 use Rattle.script_runner.specs.Run.{IsGood}
+use Rattle.script_runner.specs.Measure.{turns_by_weight}
+use Rattle.script_runner.specs.Script.{blocks_of}
 
 -- the most bytes that a script has
 abbrev pub script_limit : ℕ
@@ -70,6 +72,20 @@ abbrev pub Ran : Option ℕ → Result Run ScriptFault → List ℕ → Type 0
 Ran order (Ok run) bytes = IsRunOf order run bytes
 Ran order (Err fault.NoMemory) bytes = Unit {0}
 Ran order (Err (fault.Refused line why)) bytes = script_of bytes ≡ Err (record { line = line; why = why })
+
+-- a run has at most the turns that its script's lines take by their number and their weight
+abbrev pub HasFewTurns : Run → Type 0
+HasFewTurns run = length run.turns ≤ turns_by_weight (blocks_of run.script) run.script.lines
+
+-- so has the run of an answer, where there is one
+abbrev pub IsBounded : Outcome → Type 0
+IsBounded (Served run) = HasFewTurns run
+IsBounded (WriteFault run) = HasFewTurns run
+IsBounded (Refused line why) = ⊤
+IsBounded TooLong = ⊤
+IsBounded ReadFault = ⊤
+IsBounded NoMemory = ⊤
+IsBounded (Usage word) = ⊤
 
 -- served, or there was no memory
 abbrev pub IsServedIfMemory : Outcome → Type 0

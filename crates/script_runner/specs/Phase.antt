@@ -6,10 +6,10 @@ use Rattle.disk_base.specs.Along.{Along}
 use Rattle.block_machine.specs.declared.turn.Label.{Label}
 use Rattle.block_machine.specs.declared.turn.Label.TheVariants as label
 use Rattle.block_machine.specs.Attentions.{initiators}
-use Rattle.drive_core.specs.declared.answer.Waiting.{Waiting}
-use Rattle.drive_core.specs.Scene.{Scene, Beat, scene_after}
-use Rattle.drive_core.specs.Able.{picked}
-use Rattle.drive_core.specs.Turning.{label_of_pick}
+use Rattle.drive_scene.specs.declared.answer.Waiting.{Waiting}
+use Rattle.drive_scene.specs.Scene.{Scene, Beat, scene_after}
+use Rattle.drive_scene.specs.Able.{picked}
+use Rattle.drive_scene.specs.Turning.{label_of_pick}
 use Rattle.script_runner.specs.Arrivals.{Sends, arrived_in, left_of}
 use Rattle.script_runner.specs.Order.{drawn, number_of}
 

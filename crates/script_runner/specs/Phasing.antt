@@ -2,17 +2,17 @@
 use Rattle.std.specs.Prelude.{◌≡◌, ◌≢◌, ℕ, ◌+◌, ◌<◌, ◌≤◌, length, true, false, Bool, List, [], ◌∷◌, ◌++◌, Option}
 use Rattle.platter_model.specs.declared.world.World.{World}
 use Rattle.block_machine.specs.declared.turn.Label.TheVariants as label
-use Rattle.drive_core.specs.declared.event.Arrival.{Arrival}
-use Rattle.drive_core.specs.declared.event.Event.{Event}
-use Rattle.drive_core.specs.declared.event.Event.TheVariants as event
-use Rattle.drive_core.specs.declared.answer.TurnAnswer.{TurnAnswer}
-use Rattle.drive_core.specs.declared.answer.TurnAnswer.TheVariants as answer
-use Rattle.drive_core.specs.declared.answer.Pick.{Pick}
-use Rattle.drive_core.specs.declared.answer.Pick.TheVariants as pick
-use Rattle.drive_core.specs.Scene.{Beat}
+use Rattle.drive_scene.specs.declared.event.Arrival.{Arrival}
+use Rattle.drive_scene.specs.declared.event.Event.{Event}
+use Rattle.drive_scene.specs.declared.event.Event.TheVariants as event
+use Rattle.drive_scene.specs.declared.answer.TurnAnswer.{TurnAnswer}
+use Rattle.drive_scene.specs.declared.answer.TurnAnswer.TheVariants as answer
+use Rattle.drive_scene.specs.declared.answer.Pick.{Pick}
+use Rattle.drive_scene.specs.declared.answer.Pick.TheVariants as pick
+use Rattle.drive_scene.specs.Scene.{Beat}
 use Rattle.drive_core.specs.Served.{IsServedArrival}
-use Rattle.drive_core.specs.Turning.{label_of_pick, initiator_of, AddsTurn}
-use Rattle.drive_core.specs.Run.{Run, IsGoodRun, scene_of}
+use Rattle.drive_scene.specs.Turning.{label_of_pick, initiator_of, AddsTurn}
+use Rattle.drive_scene.specs.Run.{Run, IsGoodRun, scene_of}
 use Rattle.script_runner.specs.Each.{Each}
 use Rattle.script_runner.specs.Arrivals.{Sends, arrived_by}
 use Rattle.script_runner.specs.Order.{order_after}

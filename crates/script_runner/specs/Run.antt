@@ -4,9 +4,9 @@ use Rattle.geometry_map.specs.declared.size.Size.{Size}
 use Rattle.platter_model.specs.declared.op.Op.{Op}
 use Rattle.block_machine.specs.declared.turn.Turn.{Turn}
 use Rattle.script_text.specs.declared.script.Script.{Script}
-use Rattle.drive_core.specs.Scene.{Beat, scene_at_start}
-use Rattle.drive_core.specs.Run as drive
-use Rattle.drive_core.specs.Run.{IsGoodRun, beat_of}
+use Rattle.drive_scene.specs.Scene.{Beat, scene_at_start}
+use Rattle.drive_scene.specs.Run as drive
+use Rattle.drive_scene.specs.Run.{IsGoodRun, beat_of}
 use Rattle.script_runner.specs.Phase.{ByOrder}
 use Rattle.script_runner.specs.CarriedOut.{CarryOut}
 use Rattle.script_runner.specs.Script.{HasMeasures}

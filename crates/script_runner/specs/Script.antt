@@ -1,16 +1,21 @@
 -- Which scripts are carried out, and by which drive.
-use Rattle.std.specs.Prelude.{◌≡◌, ◌<◌, IsTrue, All, Option, option_map}
+use Rattle.std.specs.Prelude.{◌≡◌, ◌<◌, ℕ, IsTrue, All, Option, option_map}
 use Rattle.geometry_map.specs.declared.size.Size.{Size}
 use Rattle.geometry_map.specs.DefectMap.{IsPrimaryList}
 use Rattle.script_text.specs.declared.script.Line.{Line}
 use Rattle.script_text.specs.declared.script.Line.TheVariants.{Command, Function, Scan, Destage, Go, World}
 use Rattle.script_text.specs.declared.script.Script.{Script}
 use Rattle.script_text.specs.Measures.{measures_of, given_or_default}
+use Rattle.script_text.specs.Standing as text
 use Rattle.geometry_map.specs.Size.{capacity_of}
-use Rattle.drive_core.specs.Run.{Run, run_at_start}
-use Rattle.drive_core.specs.Able.{turns_at_most}
+use Rattle.drive_scene.specs.Run.{Run, run_at_start}
+use Rattle.drive_scene.specs.Able.{turns_at_most}
 use Rattle.drive_core.specs.Served.{is_served_cdb, IsServedWorld}
 use Rattle.script_runner.specs.Measure.{turns_of_lines}
+
+-- the blocks of the drive of a script
+abbrev pub blocks_of : Script → ℕ
+blocks_of script = text.capacity_of (given_or_default (option_map measures_of script.size))
 
 -- the drive has the measures that a script gives, or the default ones
 abbrev pub HasMeasures : Option Size → Size → Type 0

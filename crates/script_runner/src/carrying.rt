@@ -1,12 +1,12 @@
 //! A script is carried out: its lines, one after another.
-ghost use Rattle.std.specs.Prelude.{◌≡◌, ◌+◌, ◌<◌, [], length, All, OnOk, IfOk};
+ghost use Rattle.std.specs.Prelude.{◌≡◌, ◌+◌, ◌<◌, ◌≤◌, [], length, All, OnOk, IfOk};
 ghost use Rattle.geometry_map.specs.Size.{capacity_of};
-ghost use Rattle.drive_core.specs.Run.{scene_of};
-ghost use Rattle.drive_core.specs.Able.{turns_at_most};
+ghost use Rattle.drive_scene.specs.Run.{scene_of};
+ghost use Rattle.drive_scene.specs.Able.{turns_at_most};
 ghost use Rattle.drive_core.specs.Served.{IsServed};
-ghost use Rattle.drive_core.specs.declared.event.Event.TheVariants as event;
+ghost use Rattle.drive_scene.specs.declared.event.Event.TheVariants as event;
 ghost use Rattle.script_runner.specs.Arrivals.{sends_of};
-ghost use Rattle.script_runner.specs.Script.{HasMeasures, IsServedLine, CanBeCarriedOut, IsFresh};
+ghost use Rattle.script_runner.specs.Script.{blocks_of, HasMeasures, IsServedLine, CanBeCarriedOut, IsFresh};
 ghost use Rattle.script_runner.specs.Measure.{turns_of_line, turns_of_lines, turns_to_send};
 ghost use Rattle.script_runner.specs.Leading.{IsAtRest, TakesLine, CarriesOut};
 ghost use Rattle.script_runner.specs.Phasing.{Happens};
@@ -29,6 +29,7 @@ pub(crate) fn run_script(alloc: Global, script: Script, order: Order) -> Result<
     requires { (size : Size) → HasMeasures script.size size → CanBeCarriedOut size script }
     ensures script { IfOk result (λ run. run.script ≡ script) }
     ensures good { IfOk result (λ run. IsGood order.x run.script run.turns run.ops) }
+    ensures few { IfOk result (λ run. length run.turns ≤ turns_of_lines (blocks_of run.script) run.script.lines) }
 {
     let mut drive = made(alloc, &script)?;
     carry_out(alloc, &mut drive, script.lines.as_slice(), order)?;

@@ -1,7 +1,7 @@
 //! A phase of a script: turns of the drive, until nothing is left to do.
 ghost use Rattle.std.specs.Prelude.{◌≡◌, ◌+◌, ◌≤◌, ◌<◌, ℕ, false, [], Some, None, OnOk, length};
-ghost use Rattle.drive_core.specs.Run.{scene_of};
-ghost use Rattle.drive_core.specs.Able.{refusal, pick_of, turns_at_most};
+ghost use Rattle.drive_scene.specs.Run.{scene_of};
+ghost use Rattle.drive_scene.specs.Able.{refusal, pick_of, turns_at_most};
 ghost use Rattle.drive_core.specs.Served.{IsServed};
 ghost use Rattle.script_runner.specs.Arrivals.{sends_of};
 ghost use Rattle.script_runner.specs.Phase.{waiting_of};

@@ -19,7 +19,7 @@ pub(crate) struct Queues {
 
 impl Model for Queues {
     ghost use Rattle.std.specs.Prelude.{◌≡◌, List, map, vec_len};
-    ghost use Rattle.drive_core.specs.declared.event.Arrival.{Arrival as Sent};
+    ghost use Rattle.drive_scene.specs.declared.event.Arrival.{Arrival as Sent};
 
     ghost Value = { List (List Sent) };
 

@@ -279,6 +279,60 @@ turns 15 commands 2 good 0 check 2 full 0 aborted 0 cut 0 strays 0
     blocks: 30,
 };
 
+// With PER 1 the same read has its data, and tells of the recovery.
+const REPORTED: Example = Example {
+    script: "disk 1 1 48 2
+cmd 1 7 S 000000000000
+go
+cmd 1 8 S 55100000000000001400 =0000000000000000010AC4050000000000000000
+go
+damage 16 0 9478 soft 2 drop
+cmd 1 1 S 28000000000000000100
+",
+    report: "1 arrive 1 > in 1 1 7 S 000000000000 -
+2 work 1 > start 1 > end 1 02 700006000000000A00000000290100000000
+3 arrive 1 > in 2 1 8 S 55100000000000001400 =0000000000000000010AC4050000000000000000
+4 work 2 > start 2 > mode 1 1 1 5 1 0 1 > end 2 00
+5 damage 16 0 9478 soft 2 drop < damaged 16
+6 arrive 1 > in 3 1 1 S 28000000000000000100 -
+7 work 3 > start 3
+8 work 3 < fetch 16 0 0 < tried 16 0 none
+9 work 3 < fetch 16 1 0 < tried 16 1 none
+10 work 3 < fetch 16 2 0 < tried 16 2 found > get 3 0 *00 > end 3 02 F00001000000000A00000000170100000000
+turns 10 commands 3 good 1 check 2 full 0 aborted 0 cut 0 strays 0
+",
+    blocks: 30,
+};
+
+// The write cache is switched off, which the other initiator is told.
+const MODES: Example = Example {
+    script: "cmd 1 1 S 000000000000
+cmd 2 1 S 000000000000
+go
+cmd 1 2 S 5A08080000000000FF00
+go
+cmd 1 3 S 55100000000000001C00 =00000000000000000812000000000000000000000000000000000000
+go
+cmd 1 4 S 000000000000
+cmd 2 2 S 000000000000
+",
+    report: "1 arrive 1 > in 1 1 1 S 000000000000 -
+2 arrive 2 > in 2 2 1 S 000000000000 -
+3 work 1 > start 1 > end 1 02 700006000000000A00000000290100000000
+4 work 2 > start 2 > end 2 02 700006000000000A00000000290100000000
+5 arrive 1 > in 3 1 2 S 5A08080000000000FF00 -
+6 work 3 > start 3 > page 3 001A0010000000000812040000000000000000000000000000000000 > end 3 00
+7 arrive 1 > in 4 1 3 S 55100000000000001C00 =00000000000000000812000000000000000000000000000000000000
+8 work 4 > start 4 > mode 1 1 0 5 0 0 1 > end 4 00
+9 arrive 1 > in 5 1 4 S 000000000000 -
+10 arrive 2 > in 6 2 2 S 000000000000 -
+11 work 5 > start 5 > end 5 00
+12 work 6 > start 6 > end 6 02 700006000000000A000000002A0100000000
+turns 12 commands 6 good 3 check 3 full 0 aborted 0 cut 0 strays 0
+",
+    blocks: 912,
+};
+
 // A write, its sync, and a read of the block.
 const SYNC: Example = Example {
     script: "disk 1 1 48 2
@@ -368,6 +422,8 @@ fn reports(rt: HostRuntime) -> Result<(), Fail> {
         FUNCTIONS,
         ABORT,
         SOFT,
+        REPORTED,
+        MODES,
         HARD,
         SYNC,
     ] {

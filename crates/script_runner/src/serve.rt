@@ -1,9 +1,9 @@
 //! The top call: one script in, one report out.
 
-ghost use Rattle.std.specs.Prelude.{◌≡◌, ◌↔◌, ℕ, Err, IsOk};
+ghost use Rattle.std.specs.Prelude.{◌≡◌, ◌↔◌, ℕ, Err, IfOk, IsOk};
 ghost use Rattle.outside.specs.Faults.{Rises};
 ghost use Rattle.script_runner.specs.Words.{texts_of, order_asked, order_of};
-ghost use Rattle.script_runner.specs.Outcome.{SourceOf, SinkOf, IsQuiet, IsWriteFault, IsServedIfMemory, HasScript, Ran};
+ghost use Rattle.script_runner.specs.Outcome.{SourceOf, SinkOf, IsQuiet, IsWriteFault, IsServedIfMemory, IsBounded, HasFewTurns, HasScript, Ran};
 
 use crate::carrying::run_script;
 use crate::order::Order;
@@ -31,6 +31,9 @@ pub fn serve_alone<S: Source, K: Sink>(
     ensures usage { (word : ℕ) → (result ≡ Outcome.Usage word) ↔ (order_asked (texts_of words.now) ≡ Err word) }
     ensures unread { (word : ℕ) → result ≡ Outcome.Usage word → source.new ≡ source.old }
     ensures quiet { IsQuiet result → sink.new ≡ sink.old }
+
+    // A script is carried out in a number of turns that its lines bound, by how many they are and what they weigh.
+    ensures turns { IsBounded result }
 
     ensures read_fault { result ≡ Outcome.ReadFault → Rises (S.faults source.old) (S.faults source.new) }
     ensures write_fault { IsWriteFault result → Rises (K.faults sink.old) (K.faults sink.new) }
@@ -63,7 +66,8 @@ pub fn serve_alone<S: Source, K: Sink>(
 
 // The run of a script.
 fn run_bytes(alloc: Global, bytes: &[u8], order: Order) -> Result<Run, ScriptFault>
-    ensures { Ran order.x result bytes.now }
+    ensures ran { Ran order.x result bytes.now }
+    ensures few { IfOk result HasFewTurns }
 {
     match read_script(alloc, bytes) {
         Ok(script) => match run_script(alloc, script, order) {

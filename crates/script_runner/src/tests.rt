@@ -60,8 +60,6 @@ fn refusals(rt: HostRuntime) -> Result<(), Fail> {
         (b"\n\ncmd 1 1\n", b"line 3: shape\n"),
         (b"cmd 9 1 S 28000000000000000100", b"line 1: number\n"),
         (b"cmd 2 1 S 070000000000", b"line 1: later\n"),
-        (b"cmd 1 1 O 151000001800", b"line 1: later\n"),
-        (b"cmd 1 1 S 55100000000000001C00", b"line 1: later\n"),
         (b"scan 1\n", b"line 1: later\n"),
         (b"destage 1\n", b"line 1: later\n"),
         (b"fault 16\n", b"line 1: later\n"),

@@ -298,16 +298,17 @@ minutes : Asks (codes "minutes 65535\n") (World (Minutes 65535) ∷ [])
 unfolding script_of with_text with_words with_line with_measures with_primary form_of measures_from command_of damage_at plain_drop soft_drop plain_add soft_add armed number parts_at bytes_of byte_of hex_on_literals
 minutes = refl
 
--- Later: REASSIGN BLOCKS and MODE SELECT
+-- Later: REASSIGN BLOCKS
 reassign_blocks : Refuses (codes "cmd 1 1 S 070000000000\n") 1 Later
 unfolding script_of with_text with_words with_line with_measures with_primary form_of measures_from command_of damage_at plain_drop soft_drop plain_add soft_add armed number parts_at bytes_of byte_of hex_on_literals
 reassign_blocks = refl
 
-mode_select_6 : Refuses (codes "cmd 1 1 S 150000000000\n") 1 Later
+-- not so MODE SELECT in either form
+mode_select_6 : Asks (codes "cmd 1 1 S 150000000000\n") (Command 1 (record { 0 = 1 }) Simple (0x15 ∷ 0 ∷ 0 ∷ 0 ∷ 0 ∷ 0 ∷ []) Nothing ∷ Go ∷ [])
 unfolding script_of with_text with_words with_line with_measures with_primary form_of measures_from command_of damage_at plain_drop soft_drop plain_add soft_add armed number parts_at bytes_of byte_of hex_on_literals
 mode_select_6 = refl
 
-mode_select_10 : Refuses (codes "cmd 1 1 S 55000000000000000000\n") 1 Later
+mode_select_10 : Asks (codes "cmd 1 1 S 55000000000000000100 *08\n") (Command 1 (record { 0 = 1 }) Simple (0x55 ∷ 0 ∷ 0 ∷ 0 ∷ 0 ∷ 0 ∷ 0 ∷ 0 ∷ 1 ∷ 0 ∷ []) (Fill 8) ∷ Go ∷ [])
 unfolding script_of with_text with_words with_line with_measures with_primary form_of measures_from command_of damage_at plain_drop soft_drop plain_add soft_add armed number parts_at bytes_of byte_of hex_on_literals
 mode_select_10 = refl
 

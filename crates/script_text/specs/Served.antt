@@ -1,13 +1,13 @@
 -- Which lines are served; another one is in order all the same.
-use Rattle.std.specs.Prelude.{ℕ, ◌==◌, ◌||◌, not, Bool, true, false, slice_index}
+use Rattle.std.specs.Prelude.{ℕ, ◌==◌, not, Bool, true, false, slice_index}
 use Rattle.platter_model.specs.declared.world.World.{World as Event}
 use Rattle.platter_model.specs.declared.world.World.TheVariants.{Damage, Fault, Cut, Arm, Power, Minutes}
 use Rattle.script_text.specs.declared.script.Line.{Line}
 use Rattle.script_text.specs.declared.script.Line.TheVariants.{Command, Function, Scan, Destage, Go, World}
 
--- all but REASSIGN BLOCKS and MODE SELECT (6) and (10)
+-- all but REASSIGN BLOCKS
 abbrev pub is_served_code : ℕ → Bool
-is_served_code code = not (code == 0x07 || (code == 0x15 || code == 0x55))
+is_served_code code = not (code == 0x07)
 
 abbrev pub is_served_event : Event → Bool
 is_served_event (Damage d) = true

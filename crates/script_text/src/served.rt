@@ -30,8 +30,5 @@ fn is_served_event(world: &World) -> bool
 fn is_served_code(code: u8) -> bool
     ensures { result ≡ is_served_code code }
 {
-    match code {
-        0x07 | 0x15 | 0x55 => false,
-        _ => true,
-    }
+    code != 0x07
 }

@@ -1,7 +1,7 @@
 -- the lines, one after another
 use Rattle.std.proofs.Common.{◌+◌, drop}
 use Rattle.std.proofs.lemmas.Result.{on_ok_weaker}
-use Rattle.drive_core.specs.Able.{turns_at_most}
+use Rattle.drive_scene.specs.Able.{turns_at_most}
 use Rattle.script_runner.specs.Arrivals.{sends_of}
 use Rattle.script_runner.specs.Phasing.{Carried}
 use Rattle.script_runner.proofs.Lines.{script_begins, script_on, script_done, room_for, room_at_end, from_place, at_end}

@@ -1,6 +1,6 @@
 -- what happens from outside is one turn
 use Rattle.std.proofs.lemmas.Result.{on_ok_weaker}
-use Rattle.drive_core.specs.declared.event.Event.TheVariants as event
+use Rattle.drive_scene.specs.declared.event.Event.TheVariants as event
 use Rattle.script_runner.specs.Phasing.{MakesTurn}
 use Rattle.script_runner.proofs.Outside.{happens}
 use Rattle.script_runner.proofs.carrying.happen.Goals as goal

@@ -1,7 +1,7 @@
 -- a fresh drive of the script's measures
 use Rattle.std.proofs.Common.{◌∙◌, ap, List}
 use Rattle.disk_base.specs.declared.address.Psn.{Psn}
-use Rattle.drive_core.specs.Run.{run_at_start}
+use Rattle.drive_scene.specs.Run.{run_at_start}
 use Rattle.script_runner.proofs.carrying.made.Goals as goal
 
 pub returns-in-Ok : goal.returns-in-Ok

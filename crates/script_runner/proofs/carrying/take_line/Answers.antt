@@ -2,7 +2,7 @@
 use Rattle.std.proofs.Common.{◌≡◌, sym, subst, arith, refl, ℕ, []}
 use Rattle.std.specs.Prelude.{OnOk}
 use Rattle.std.proofs.lemmas.Result.{on_ok_weaker}
-use Rattle.drive_core.specs.declared.event.Arrival.TheVariants as arrival
+use Rattle.drive_scene.specs.declared.event.Arrival.TheVariants as arrival
 use Rattle.script_text.specs.declared.script.Line.{Line}
 use Rattle.drive_core.specs.Served.{IsServedArrival}
 use Rattle.script_runner.specs.Arrivals.{sends_of, Added}

@@ -1,7 +1,7 @@
 -- the turns of a phase, one after another, and that it ends
 use Rattle.std.proofs.Common.{◌≡◌, ◌∙◌, ap, sym, None, Some}
-use Rattle.drive_core.specs.declared.answer.Waiting.{Waiting}
-use Rattle.drive_core.specs.Able.{pick_of}
+use Rattle.drive_scene.specs.declared.answer.Waiting.{Waiting}
+use Rattle.drive_scene.specs.Able.{pick_of}
 use Rattle.script_runner.specs.Arrivals.{sends_of}
 use Rattle.script_runner.specs.Order.{drawn, number_of}
 use Rattle.script_runner.specs.Phase.{waiting_of}

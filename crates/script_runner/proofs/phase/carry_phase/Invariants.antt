@@ -1,4 +1,4 @@
-use Rattle.drive_core.specs.Run.{scene_of}
+use Rattle.drive_scene.specs.Run.{scene_of}
 use Rattle.script_runner.specs.Arrivals.{sends_of}
 use Rattle.script_runner.specs.Measure.{turns_of_phase}
 use Rattle.script_runner.proofs.Underway.{InPhase}

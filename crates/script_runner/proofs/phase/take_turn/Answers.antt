@@ -1,6 +1,6 @@
 -- what is picked isn't refused, and its turn takes what arrives
 use Rattle.std.proofs.lemmas.Result.{on_ok_weaker}
-use Rattle.drive_core.specs.Run.{scene_of}
+use Rattle.drive_scene.specs.Run.{scene_of}
 use Rattle.script_runner.specs.Arrivals.{sends_of}
 use Rattle.script_runner.specs.Phasing.{MakesTurn}
 use Rattle.script_runner.specs.Phase.{waiting_of}

@@ -1,7 +1,7 @@
 -- the queue of the initiator is longer, and the others are as they were
 use Rattle.std.proofs.Common.{◌∙◌, ap, sym, ◌<◌, length, arith, List, [], ◌∷◌, ◌++◌}
 use Rattle.std.proofs.lemmas.Result.{err_from_is_err_and}
-use Rattle.drive_core.specs.declared.event.Arrival.{Arrival as Sent}
+use Rattle.drive_scene.specs.declared.event.Arrival.{Arrival as Sent}
 use Rattle.script_runner.proofs.Places.{one_changed, one_of, unchanged}
 use Rattle.script_runner.proofs.queues.Queues.put.Goals as goal
 

@@ -1,7 +1,7 @@
 -- the flags so far are those of the queues
 use Rattle.std.proofs.Common.{◌≡◌, ◌∙◌, ap, sym, refl, length, Bool, false, not, nat_eq, List}
 use Rattle.std.proofs.lemmas.List.{length-map}
-use Rattle.drive_core.specs.declared.answer.Waiting.{Waiting}
+use Rattle.drive_scene.specs.declared.answer.Waiting.{Waiting}
 use Rattle.script_runner.proofs.Places.{one_more, all_set}
 use Rattle.script_runner.proofs.queues.Queues.waiting.Goals as goal
 
