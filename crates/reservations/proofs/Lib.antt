@@ -1,0 +1,10 @@
+pub mod Filling
+pub mod Start
+pub mod Requests
+pub mod Ways
+pub mod Sound
+pub mod Quiet
+pub mod Ends
+pub mod Reached
+pub mod Told
+pub mod Examples

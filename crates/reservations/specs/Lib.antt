@@ -1,0 +1,10 @@
+pub mod Desk
+pub mod Conflict
+pub mod Verdicts
+pub mod Parameters
+pub mod Request
+pub mod Acts
+pub mod Pages
+pub mod Judged
+pub mod Runs
+pub mod Laws
