@@ -5,14 +5,14 @@ pub const WRITE_FAULT: &[u8] = b"write fault\n";
 
 pub const WRITE_FAULT_STATUS: u8 = 4;
 
-const VERSION: &[u8] = b"neprozul 0.1.0\nproved with rattle-kit-13f logic dac8208d650f15bf\n";
+const VERSION: &[u8] = b"neprozul 0.1.0\nwritten for rattle-kit-13f logic dac8208d650f15bf\n";
 
 const HELP: &[u8] = b"drive: the controller firmware of a disk drive, run over a script of commands
 
 usage: drive run < SCRIPT             carries the script out and writes its report
        drive run --order N < SCRIPT   the same, where the turns of a phase come in an order drawn from N, 0 to 2147483647
        drive --help                   this text
-       drive --version                the version, and the kit that it is proved with
+       drive --version                the version, and the kit that it is written for
 
 A script has lines of words parted by one space. Served so far are
     disk C H S R, primary P    the measures of the drive and its defects, first of all
