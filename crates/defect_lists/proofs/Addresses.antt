@@ -3,7 +3,7 @@ use Rattle.std.proofs.Common.{◌≡◌, ℕ, ◌+◌, ◌*◌, ◌/◌, ◌%◌
 use Rattle.std.specs.Prelude.{map, if◌then◌else◌, Bool}
 use Rattle.std.proofs.lemmas.Nat.{div-mul-add}
 use Rattle.std.proofs.lemmas.List.{length-map}
-use Rattle.geometry_map.specs.declared.limits.TheConstants.{LIST_LENGTH_MAX}
+use Rattle.geometry_map.specs.declared.limits.TheConstants.{PRIMARY_MAX, PAIRS_MAX}
 use Rattle.geometry_map.specs.declared.size.Size.{Size}
 use Rattle.geometry_map.specs.Size.{LiesAt}
 use Rattle.geometry_map.specs.DefectMap.{DefectMap, IsValidMap}
@@ -36,7 +36,7 @@ pub sector_is : (size : Size) (p c h s : ℕ) → LiesAt size p c h s → p % si
 sector_is size p c h s lies = remainder_of p (c * size.heads + h) size.sectors s lies.number lies.on_a_track
 
 -- no more are asked for than two lists hold
-pub asked_sectors-few : (m : DefectMap) (request : DefectRequest) → IsValidMap m → length (asked_sectors m request) ≤ 2 * LIST_LENGTH_MAX
+pub asked_sectors-few : (m : DefectMap) (request : DefectRequest) → IsValidMap m → length (asked_sectors m request) ≤ PRIMARY_MAX + PAIRS_MAX
 asked_sectors-few m request valid =
     let part : (asked : Bool) (xs : List ℕ) → length (if asked then xs else []) ≤ length xs = λ asked xs. elim asked as (λ b. length (if b then xs else []) ≤ length xs) [ true ↦ omega arith | false ↦ omega arith ] in
     let primary : List ℕ = map (λ p. p.0) m.primary in

@@ -1,13 +1,15 @@
 -- Maps of a drive of 1,024 sectors, with what is so by each and what is not.
-use Rattle.std.proofs.Common.{◌≡◌, ℕ, ◌-◌, List, [], ◌∷◌, refl, lit≤, lit<, true, false, arith}
+use Rattle.std.proofs.Common.{◌≡◌, ℕ, ◌-◌, List, [], ◌∷◌, ap, refl, lit≤, lit<, true, false, arith}
 use Rattle.std.specs.Prelude.{Some, None, replicate}
+use Rattle.disk_base.specs.declared.address.Psn.{Psn}
 use Rattle.disk_base.specs.declared.address.Lba.{Lba}
-use Rattle.geometry_map.specs.declared.limits.TheConstants.{LIST_LENGTH_MAX}
+use Rattle.geometry_map.specs.declared.limits.TheConstants.{PAIRS_MAX}
 use Rattle.geometry_map.specs.declared.size.Size.{Size}
 use Rattle.geometry_map.specs.declared.pair.Pair.{Pair}
 use Rattle.geometry_map.specs.Placer.{gaps_of, remap_of}
 use Rattle.geometry_map.specs.Size.{LiesAt}
 use Rattle.geometry_map.specs.ValidMap.{is_valid_map}
+use Rattle.geometry_map.specs.Chains.{IsChain, chain_end, IsFreeSpare, IsNextSpare}
 use Rattle.geometry_map.specs.DefectMap.{DefectMap, sector, factory_map, with_pairs, place_of, next_spare_of, AscendsWithin, IsPair}
 
 abbrev drive : Size
@@ -71,6 +73,45 @@ end_of_a_chain = refl
 other_order : place_of (with_pairs new_map (pair 928 929 ∷ pair 16 928 ∷ [])) (block 0) ≡ sector 928
 other_order = refl
 
+-- it is a chain from block 0's place, and ends at its last spare; in the other order it is none, nor from another sector
+chain_of_a_block : IsChain (place_of new_map (block 0)) chain
+chain_of_a_block = (refl, (refl, tt))
+
+last_spare_of_a_chain : chain_end (sector 16) chain ≡ sector 929
+last_spare_of_a_chain = refl
+
+end_of_no_pairs : chain_end (sector 16) [] ≡ sector 16
+end_of_no_pairs = refl
+
+one_number : (p q : ℕ) → sector p ≡ sector q → p ≡ q
+one_number p q same = ap (λ (r : Psn). r.0) same
+
+no_chain_in_the_other_order : IsChain (sector 16) (pair 928 929 ∷ pair 16 928 ∷ []) → ⊥
+no_chain_in_the_other_order is = absurd (omega (arith, one_number 928 16 is.0))
+
+no_chain_of_another_sector : IsChain (sector 17) chain → ⊥
+no_chain_of_another_sector is = absurd (omega (arith, one_number 16 17 is.0))
+
+no_chain_past_a_gap : IsChain (sector 16) (pair 16 928 ∷ pair 929 930 ∷ []) → ⊥
+no_chain_past_a_gap is = absurd (omega (arith, one_number 929 928 is.1.0))
+
+-- beside the chain spare 930 is free; the chain's own spares are not, nor a sector of a block
+free_spare : IsFreeSpare (with_pairs new_map chain) (sector 930)
+free_spare = record { spare = refl; in_no_pair = refl }
+
+last_spare_of_a_chain_is_not_free : IsFreeSpare (with_pairs new_map chain) (sector 929) → ⊥
+last_spare_of_a_chain_is_not_free is = absurd (let no : true ≡ false = is.in_no_pair in cc)
+
+bad_spare_of_a_chain_is_not_free : IsFreeSpare (with_pairs new_map chain) (sector 928) → ⊥
+bad_spare_of_a_chain_is_not_free is = absurd (let no : true ≡ false = is.in_no_pair in cc)
+
+sector_of_a_block_is_not_free : IsFreeSpare new_map (sector 927) → ⊥
+sector_of_a_block_is_not_free is = absurd (let no : false ≡ true = is.spare in cc)
+
+-- a free spare that is taken is not the next one
+taken_spare_is_not_next : IsNextSpare new_map (sector 928 ∷ []) (sector 928) → ⊥
+taken_spare_is_not_next is = absurd (let no : true ≡ false = is.not_taken in cc)
+
 -- neither spare of the chain is given again, nor one that is taken
 spare_after_a_chain : next_spare_of (with_pairs new_map chain) [] ≡ Some (sector 930)
 spare_after_a_chain = refl
@@ -83,10 +124,10 @@ spare_after_old : next_spare_of (with_pairs new_map (pair 928 930 ∷ [])) [] �
 spare_after_old = refl
 
 -- beside the two pairs of the chain all but two sectors that a list may have are taken, or one less
-no_spare_past_the_lists : next_spare_of (with_pairs new_map chain) (replicate (LIST_LENGTH_MAX - 2) (sector 0)) ≡ None
+no_spare_past_the_lists : next_spare_of (with_pairs new_map chain) (replicate (PAIRS_MAX - 2) (sector 0)) ≡ None
 no_spare_past_the_lists = refl
 
-spare_within_the_lists : next_spare_of (with_pairs new_map chain) (replicate (LIST_LENGTH_MAX - 3) (sector 0)) ≡ Some (sector 930)
+spare_within_the_lists : next_spare_of (with_pairs new_map chain) (replicate (PAIRS_MAX - 3) (sector 0)) ≡ Some (sector 930)
 spare_within_the_lists = refl
 
 -- the lists of a placer, where sector 20 is a primary defect and block 0 is at spare 929

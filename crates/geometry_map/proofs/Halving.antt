@@ -6,7 +6,7 @@ use Rattle.std.specs.Ordering.{nat_cmp, ordering_index}
 use Rattle.std.specs.declared.cmp.Ordering.TheVariants.{Less, Equal, Greater}
 use Rattle.std.proofs.lemmas.Bool.Decides.{leb_tells, eqb_tells}
 use Rattle.std.proofs.lemmas.List.FromFn.{filter_of_map_range_with_len_more}
-use Rattle.geometry_map.specs.declared.limits.TheConstants.{LIST_LENGTH_MAX}
+use Rattle.geometry_map.specs.declared.limits.TheConstants.{PAIRS_MAX}
 use Rattle.geometry_map.specs.declared.pair.Pair.{Pair}
 use Rattle.geometry_map.specs.declared.placer.Placer.{Placer}
 use Rattle.geometry_map.specs.Size.{total_of, capacity_of}
@@ -79,6 +79,6 @@ remap-same m b here =
     filter_of_map_range_with_len_more is_moved (route_of m) 0 b b (omega arith) ∙ rw here (append-nil (filter is_moved (routes m 0 b)))
 
 -- there is room for it
-pub remap-room : (m : DefectMap) (b : ℕ) → IsValidMap m → b < capacity_of m.size → is_moved (route_of m b) ≡ true → length (filter is_moved (routes m 0 b)) < LIST_LENGTH_MAX
+pub remap-room : (m : DefectMap) (b : ℕ) → IsValidMap m → b < capacity_of m.size → is_moved (route_of m b) ≡ true → length (filter is_moved (routes m 0 b)) < PAIRS_MAX
 remap-room m b valid below elsewhere =
     omega (arith, moved-few m (b + 1) valid (omega arith), ap length (remap-more m b elsewhere), length-append (filter is_moved (routes m 0 b)) (route_of m b ∷ []), valid.grown.few)

@@ -2,6 +2,7 @@ pub mod SlipLemmas
 pub mod SpareLemmas
 pub mod PairLemmas
 pub mod Places
+pub mod ChainLemmas
 pub mod Numbering
 pub mod OwnSpares
 pub mod Examples

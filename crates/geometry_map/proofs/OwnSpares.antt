@@ -1,9 +1,10 @@
 -- Pairs that have spares of their own, one more at a time.
-use Rattle.std.proofs.Common.{◌≡◌, ℕ, ◌+◌, ◌<◌, Bool, true, false, List, length, get_or, take, sym, ◌∙◌, ap, subst, inl, inr, arith, length-take}
-use Rattle.std.specs.Prelude.{◌==◌, AllPairs}
+use Rattle.std.proofs.Common.{◌≡◌, ℕ, ◌+◌, ◌<◌, zero, suc, Bool, true, false, List, [], ◌∷◌, ◌++◌, length, get_or, take, sym, ◌∙◌, ap, subst, inl, inr, arith, length-take}
+use Rattle.std.specs.Prelude.{◌==◌, All, AllPairs}
 use Rattle.std.specs.List.{list_any}
 use Rattle.std.proofs.lemmas.List.{get_or-take, get_or_default, take_more}
 use Rattle.std.proofs.lemmas.List.Folds.{list_any_at, Any-from_list_any}
+use Rattle.std.proofs.lemmas.List.Elements.{All-append, All-head, All-tail}
 use Rattle.std.proofs.lemmas.List.Quantifiers.{all_pairs_push}
 use Rattle.std.proofs.lemmas.Bool.Decides.{eqb_tells}
 use Rattle.geometry_map.specs.declared.pair.Pair.{Pair}
@@ -44,3 +45,19 @@ own_spares-more pairs i d within none own =
     true_false (sym found ∙ none) in
     let P : List Pair → Type 0 = AllPairs HaveOwnSpares in
     subst P (sym (take_more pairs i d within)) (all_pairs_push HaveOwnSpares (take i pairs) (get_or pairs i d) own apart)
+
+-- a pair with a spare of its own before others
+pub AllPairs-cons : (pair : Pair) (pairs : List Pair) → All (HaveOwnSpares pair) pairs → AllPairs HaveOwnSpares pairs → AllPairs HaveOwnSpares (pair ∷ pairs)
+AllPairs-cons pair pairs first rest zero zero d before within = absurd (omega arith)
+AllPairs-cons pair pairs first rest zero (suc j) d before within = first j d (omega arith)
+AllPairs-cons pair pairs first rest (suc i) zero d before within = absurd (omega arith)
+AllPairs-cons pair pairs first rest (suc i) (suc j) d before within = rest i j d (omega arith) (omega arith)
+
+-- lists of pairs with their own spares, one after the other
+pub AllPairs-append : (pairs more : List Pair) → AllPairs HaveOwnSpares pairs → AllPairs HaveOwnSpares more → All (λ pair. All (HaveOwnSpares pair) more) pairs
+    → AllPairs HaveOwnSpares (pairs ++ more)
+AllPairs-append [] more own own' apart = own'
+AllPairs-append (pair ∷ pairs) more own own' apart =
+    AllPairs-cons pair (pairs ++ more)
+    (All-append (HaveOwnSpares pair) pairs more (λ k d within. own 0 (suc k) d (omega arith) (omega arith)) (All-head (λ p. All (HaveOwnSpares p) more) pair pairs apart))
+    (AllPairs-append pairs more (λ i j d before within. own (suc i) (suc j) d (omega arith) (omega arith)) own' (All-tail (λ p. All (HaveOwnSpares p) more) pair pairs apart))

@@ -8,13 +8,14 @@ use Rattle.std.proofs.lemmas.List.Elements.{All-push, All-nil, All-cons, All-tai
 use Rattle.std.proofs.lemmas.List.Quantifiers.{all_pairs_push}
 use Rattle.disk_base.specs.declared.address.Psn.{Psn}
 use Rattle.disk_base.specs.declared.address.Lba.{Lba}
-use Rattle.geometry_map.specs.declared.limits.TheConstants.{LIST_LENGTH_MAX}
+use Rattle.geometry_map.specs.declared.limits.TheConstants.{PAIRS_MAX}
 use Rattle.geometry_map.specs.declared.size.Size.{Size}
 use Rattle.geometry_map.specs.declared.pair.Pair.{Pair}
 use Rattle.geometry_map.specs.Size.{total_of, capacity_of}
 use Rattle.geometry_map.specs.Slips.{slipped}
 use Rattle.geometry_map.specs.DefectMap.{DefectMap, sector, is_listed, is_in_a_pair, moved, through, place_of, slip_place, spares, next_spare_of, is_free, is_open, IsPrimaryList, IsPair, IsGrownList, IsValidMap, HaveOwnSpares}
-use Rattle.geometry_map.specs.Laws.{BlocksHaveOwnSectors, BlocksLieOnUserSectors, GivenSparesAreFree, GivenSparesMakePairs}
+use Rattle.geometry_map.specs.Chains.{IsNextSpare}
+use Rattle.geometry_map.specs.Laws.{BlocksHaveOwnSectors, BlocksLieOnUserSectors, GivenSparesAreFree, GivenSparesMakePairs, GivenSparesAreNext, FreeSparesAreNoPlaces}
 use Rattle.geometry_map.proofs.SlipLemmas.{slipped-low, slipped-rises}
 use Rattle.geometry_map.proofs.SpareLemmas.{answer_of, slip_place-slipped, slipped-within, first_of, left_of, is_sound, is_spare_of, spare-kept, spares-kept, find-kept}
 use Rattle.geometry_map.proofs.PairLemmas.{IsNewOfNone, through-apart, through-distinct, IsNewOfNone-from_All, HaveDifferentSpares-from_AllPairs}
@@ -104,33 +105,29 @@ not_true : (b : Bool) → not b ≡ true → b ≡ false
 not_true true e = absurd (cc)
 not_true false e = refl
 
--- what is given is a spare that is in no pair and not taken, while there is room
-pub record IsGiven (m : DefectMap) (taken : List Psn) (p : ℕ) : Type 0 where
-  pub spare : is_spare_of m.size m.primary p ≡ true
-  pub in_no_pair : is_in_a_pair p m.grown ≡ false
-  pub not_taken : is_listed p taken ≡ false
-  pub room : length m.grown + length taken < LIST_LENGTH_MAX
-
-IsGiven-found : (m : DefectMap) (taken : List Psn) (p : Psn) (r : Option ℕ) → find (is_free m.grown taken) (spares m.size m.primary) ≡ r → option_map sector r ≡ Some p
-    → length m.grown + length taken < LIST_LENGTH_MAX → IsGiven m taken p.0
-IsGiven-found m taken p None found given room = absurd (cc)
-IsGiven-found m taken p (Some x) found given room =
+IsNextSpare-found : (m : DefectMap) (taken : List Psn) (p : Psn) (r : Option ℕ) → find (is_free m.grown taken) (spares m.size m.primary) ≡ r → option_map sector r ≡ Some p
+    → length m.grown + length taken < PAIRS_MAX → IsNextSpare m taken p
+IsNextSpare-found m taken p None found given room = absurd (cc)
+IsNextSpare-found m taken p (Some x) found given room =
     let same : sector x ≡ p = cc in
-    let number : x ≡ p.0 = ap (λ (q : Psn). q.0) same in
     let passes = find-passes (is_free m.grown taken) (spares m.size m.primary) x found in
     let free = both_of (not (is_in_a_pair x m.grown)) (not (is_listed x taken)) passes.0 in
-    let P : ℕ → Type 0 = λ n. IsGiven m taken n in
-    subst P number (record { spare = passes.1; in_no_pair = not_true (is_in_a_pair x m.grown) free.0; not_taken = not_true (is_listed x taken) free.1; room = room })
+    let P : Psn → Type 0 = λ q. IsNextSpare m taken q in
+    subst P same (record {
+      free = record { spare = passes.1; in_no_pair = not_true (is_in_a_pair x m.grown) free.0 };
+      not_taken = not_true (is_listed x taken) free.1;
+      few = room;
+    })
 
-pub IsGiven-next_spare : (m : DefectMap) (taken : List Psn) (p : Psn) → next_spare_of m taken ≡ Some p → IsGiven m taken p.0
-IsGiven-next_spare m taken p given =
-    elim (leb_tells (suc (length m.grown + length taken)) LIST_LENGTH_MAX) [
-      | inl w ↦ IsGiven-found m taken p (find (is_free m.grown taken) (spares m.size m.primary)) refl (rw w.0 at given) w.1
+pub given_spares_are_next : GivenSparesAreNext
+given_spares_are_next m taken p given =
+    elim (leb_tells (suc (length m.grown + length taken)) PAIRS_MAX) [
+      | inl w ↦ IsNextSpare-found m taken p (find (is_free m.grown taken) (spares m.size m.primary)) refl (rw w.0 at given) w.1
       | inr w ↦ absurd (let none : None ≡ Some p = rw w.0 at given in cc)
     ]
 
 -- what is in no pair is new of none
-in_no_pair-new_of_none : (p : ℕ) (pairs : List Pair) → is_in_a_pair p pairs ≡ false → IsNewOfNone p pairs
+pub in_no_pair-new_of_none : (p : ℕ) (pairs : List Pair) → is_in_a_pair p pairs ≡ false → IsNewOfNone p pairs
 in_no_pair-new_of_none p [] none = tt
 in_no_pair-new_of_none p (pair ∷ pairs) none =
     elim (eqb_tells pair.old.0 p) [
@@ -141,16 +138,18 @@ in_no_pair-new_of_none p (pair ∷ pairs) none =
       ]
     ]
 
-pub given_spares_are_free : GivenSparesAreFree
-given_spares_are_free m valid taken p given b below same =
-    let is = IsGiven-next_spare m taken p given in
+pub free_spares_are_no_places : FreeSparesAreNoPlaces
+free_spares_are_no_places m valid p free b below same =
     let number : (place_of m b).0 ≡ p.0 = ap (λ (q : Psn). q.0) same in
-    let up : (slip_place m.size m.primary b).0 < p.0 = start-below_spare m b p.0 valid below is.spare in
-    through-apart m.grown (slip_place m.size m.primary b) p.0 (omega arith) (in_no_pair-new_of_none p.0 m.grown is.in_no_pair) number
+    let up : (slip_place m.size m.primary b).0 < p.0 = start-below_spare m b p.0 valid below free.spare in
+    through-apart m.grown (slip_place m.size m.primary b) p.0 (omega arith) (in_no_pair-new_of_none p.0 m.grown free.in_no_pair) number
+
+pub given_spares_are_free : GivenSparesAreFree
+given_spares_are_free m valid taken p given = free_spares_are_no_places m valid p (given_spares_are_next m taken p given).free
 
 -- a grown list takes one more pair, whose spare is its own
 pub IsGrownList-push : (size : Size) (primary : List Psn) (pairs : List Pair) (pair : Pair) → IsGrownList size primary pairs → IsPair size primary pair
-    → All (λ p. HaveOwnSpares p pair) pairs → length pairs < LIST_LENGTH_MAX → IsGrownList size primary (pairs ++ pair ∷ [])
+    → All (λ p. HaveOwnSpares p pair) pairs → length pairs < PAIRS_MAX → IsGrownList size primary (pairs ++ pair ∷ [])
 IsGrownList-push size primary pairs pair list is own room = record {
   pairs = All-push (IsPair size primary) pairs pair list.pairs is;
   own_spares = all_pairs_push HaveOwnSpares pairs pair list.own_spares own;
@@ -158,15 +157,15 @@ IsGrownList-push size primary pairs pair list is own room = record {
 }
 
 -- the next spare is the first open sector past the places of all blocks
-pub next_spare-open : (m : DefectMap) (taken : List Psn) → IsValidMap m → length m.grown + length taken < LIST_LENGTH_MAX
+pub next_spare-open : (m : DefectMap) (taken : List Psn) → IsValidMap m → length m.grown + length taken < PAIRS_MAX
     → next_spare_of m taken ≡ option_map sector (find (is_open m.primary m.grown taken) (range_with_len (first_of m.size m.primary) (left_of m.size m.primary)))
 next_spare-open m taken valid room =
-    let fits : nat_lt (length m.grown + length taken) LIST_LENGTH_MAX ≡ true = elim (leb_tells (suc (length m.grown + length taken)) LIST_LENGTH_MAX) [ inl w ↦ w.0 | inr w ↦ absurd (omega arith) ] in
+    let fits : nat_lt (length m.grown + length taken) PAIRS_MAX ≡ true = elim (leb_tells (suc (length m.grown + length taken)) PAIRS_MAX) [ inl w ↦ w.0 | inr w ↦ absurd (omega arith) ] in
     rw (fits, spares-kept m.size m.primary valid.primary)
     (ap (option_map sector) (find-kept (left_of m.size m.primary) (first_of m.size m.primary) (is_sound m.primary) (is_free m.grown taken)))
 
 -- the same where what it is made of goes by other names
-pub next_spare-by : (m : DefectMap) (taken primary : List Psn) (grown : List Pair) (first total : ℕ) → IsValidMap m → length m.grown + length taken < LIST_LENGTH_MAX
+pub next_spare-by : (m : DefectMap) (taken primary : List Psn) (grown : List Pair) (first total : ℕ) → IsValidMap m → length m.grown + length taken < PAIRS_MAX
     → primary ≡ m.primary → grown ≡ m.grown → first ≡ first_of m.size m.primary → total ≡ total_of m.size
     → option_map sector (find (is_open primary grown taken) (range_with_len first (total - first))) ≡ next_spare_of m taken
 next_spare-by m taken primary grown first total valid room p g f t =
@@ -178,16 +177,16 @@ next_spare-by m taken primary grown first total valid room p g f t =
     ∙ ap (Found m.primary m.grown) among in
     same ∙ sym (next_spare-open m taken valid room)
 
--- what is new of none of the pairs is apart from each
-new_of_none-own : (p : ℕ) (old : Psn) (pairs : List Pair) → IsNewOfNone p pairs → All (λ pair. HaveOwnSpares pair (record { old = old; new = sector p })) pairs
-new_of_none-own p old [] none = All-nil (λ pair. HaveOwnSpares pair (record { old = old; new = sector p }))
-new_of_none-own p old (pair ∷ pairs) none =
-    All-cons (λ q. HaveOwnSpares q (record { old = old; new = sector p })) pair pairs (λ same. none.0 (sym same)) (new_of_none-own p old pairs none.1)
+-- a pair whose spare is new of none of the others
+pub new_of_none-own : (pair : Pair) (pairs : List Pair) → IsNewOfNone pair.new.0 pairs → All (λ p. HaveOwnSpares p pair) pairs
+new_of_none-own pair [] none = All-nil (λ p. HaveOwnSpares p pair)
+new_of_none-own pair (p ∷ pairs) none = All-cons (λ q. HaveOwnSpares q pair) p pairs (λ same. none.0 (sym same)) (new_of_none-own pair pairs none.1)
 
 pub given_spares_make_pairs : GivenSparesMakePairs
 given_spares_make_pairs m valid taken old p from to given =
-    let is = IsGiven-next_spare m taken p given in
-    IsGrownList-push m.size m.primary m.grown (record { old = old; new = p }) valid.grown
-    (record { old_from = from; old_to = to; new = is.spare })
-    (new_of_none-own p.0 old m.grown (in_no_pair-new_of_none p.0 m.grown is.in_no_pair))
-    (omega (arith, is.room))
+    let is = given_spares_are_next m taken p given in
+    let pair : Pair = record { old = old; new = p } in
+    IsGrownList-push m.size m.primary m.grown pair valid.grown
+    (record { old_from = from; old_to = to; new = is.free.spare })
+    (new_of_none-own pair m.grown (in_no_pair-new_of_none p.0 m.grown is.free.in_no_pair))
+    (omega (arith, is.few))

@@ -6,13 +6,13 @@ use Rattle.std.specs.List.{list_any, list_all}
 use Rattle.std.proofs.lemmas.Bool.Decides.{leb_tells, Decides-and, Decides-by_and, Decides-like, Decides-ltb}
 use Rattle.std.proofs.lemmas.List.Folds.{Any-from_list_any, list_any_at}
 use Rattle.disk_base.specs.declared.address.Psn.{Psn}
-use Rattle.geometry_map.specs.declared.limits.TheConstants.{LIST_LENGTH_MAX}
+use Rattle.geometry_map.specs.declared.limits.TheConstants.{PRIMARY_MAX, PAIRS_MAX}
 use Rattle.geometry_map.specs.declared.size.Size.{Size}
 use Rattle.geometry_map.specs.declared.pair.Pair.{Pair}
 use Rattle.geometry_map.specs.Size.{total_of}
 use Rattle.geometry_map.specs.DefectMap.{spares, AscendsWithin, IsPair, IsPrimaryList, IsGrownList, HaveOwnSpares}
 use Rattle.geometry_map.specs.ValidMap.{ascends_within, is_pair, have_own_spares, is_primary_list, is_grown_list, is_valid_map, TestTellsValidMaps}
-use Rattle.geometry_map.proofs.OwnSpares.{true_false, eqb_true, eqb_same}
+use Rattle.geometry_map.proofs.OwnSpares.{true_false, eqb_true, eqb_same, AllPairs-cons}
 use Rattle.geometry_map.proofs.SpareLemmas.{answer_of}
 
 Decides-leb : (a b : ℕ) → Decides (nat_le a b) (a ≤ b)
@@ -51,12 +51,6 @@ own_later pair pairs =
       )
     ]
 
-AllPairs-cons : (pair : Pair) (pairs : List Pair) → All (HaveOwnSpares pair) pairs → AllPairs HaveOwnSpares pairs → AllPairs HaveOwnSpares (pair ∷ pairs)
-AllPairs-cons pair pairs first rest zero zero d before within = absurd (omega arith)
-AllPairs-cons pair pairs first rest zero (suc j) d before within = first j d (omega arith)
-AllPairs-cons pair pairs first rest (suc i) zero d before within = absurd (omega arith)
-AllPairs-cons pair pairs first rest (suc i) (suc j) d before within = rest i j d (omega arith) (omega arith)
-
 Decides-own : (pairs : List Pair) → Decides (have_own_spares pairs) (AllPairs HaveOwnSpares pairs)
 Decides-own [] = ((λ t i j d before within. absurd (omega arith)), (λ t. refl))
 Decides-own (pair ∷ pairs) =
@@ -68,15 +62,15 @@ Decides-own (pair ∷ pairs) =
 Decides-primary : (size : Size) (primary : List Psn) → Decides (is_primary_list size primary) (IsPrimaryList size primary)
 Decides-primary size primary =
     Decides-like (is_primary_list size primary) (λ t. record { ascending = t.0; few = t.1.0; kept_back = t.1.1 }) (λ t. (t.ascending, (t.few, t.kept_back)))
-    (Decides-and (ascends_within 16 (total_of size) primary) (nat_le (length primary) LIST_LENGTH_MAX && nat_le (length primary) size.reserved) (Decides-ascends 16 (total_of size) primary)
-    (Decides-and (nat_le (length primary) LIST_LENGTH_MAX) (nat_le (length primary) size.reserved) (Decides-leb (length primary) LIST_LENGTH_MAX) (Decides-leb (length primary) size.reserved)))
+    (Decides-and (ascends_within 16 (total_of size) primary) (nat_le (length primary) PRIMARY_MAX && nat_le (length primary) size.reserved) (Decides-ascends 16 (total_of size) primary)
+    (Decides-and (nat_le (length primary) PRIMARY_MAX) (nat_le (length primary) size.reserved) (Decides-leb (length primary) PRIMARY_MAX) (Decides-leb (length primary) size.reserved)))
 
 Decides-grown : (size : Size) (primary : List Psn) (grown : List Pair) → Decides (is_grown_list size primary grown) (IsGrownList size primary grown)
 Decides-grown size primary grown =
     Decides-like (is_grown_list size primary grown) (λ t. record { pairs = t.0; own_spares = t.1.0; few = t.1.1 }) (λ t. (t.pairs, (t.own_spares, t.few)))
-    (Decides-and (list_all (is_pair size primary) grown) (have_own_spares grown && nat_le (length grown) LIST_LENGTH_MAX)
+    (Decides-and (list_all (is_pair size primary) grown) (have_own_spares grown && nat_le (length grown) PAIRS_MAX)
     (Decides-by_and (is_pair size primary) (IsPair size primary) (list_all (is_pair size primary)) (Decides-is_pair size primary) refl (λ _ _. refl) grown)
-    (Decides-and (have_own_spares grown) (nat_le (length grown) LIST_LENGTH_MAX) (Decides-own grown) (Decides-leb (length grown) LIST_LENGTH_MAX)))
+    (Decides-and (have_own_spares grown) (nat_le (length grown) PAIRS_MAX) (Decides-own grown) (Decides-leb (length grown) PAIRS_MAX)))
 
 pub test_tells_valid_maps : TestTellsValidMaps
 test_tells_valid_maps m =

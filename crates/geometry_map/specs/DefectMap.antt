@@ -4,7 +4,7 @@ use Rattle.std.specs.List.{list_any, range_with_len}
 use Rattle.std.specs.Option.{option_map}
 use Rattle.disk_base.specs.declared.address.Psn.{Psn}
 use Rattle.disk_base.specs.declared.address.Lba.{Lba}
-use Rattle.geometry_map.specs.declared.limits.TheConstants.{LIST_LENGTH_MAX}
+use Rattle.geometry_map.specs.declared.limits.TheConstants.{PRIMARY_MAX, PAIRS_MAX}
 use Rattle.geometry_map.specs.declared.size.Size.{Size}
 use Rattle.geometry_map.specs.declared.pair.Pair.{Pair}
 use Rattle.geometry_map.specs.Size.{total_of, capacity_of}
@@ -70,7 +70,7 @@ is_open primary pairs taken p = not (is_listed p primary) && is_free pairs taken
 -- the least spare that is in no pair and not taken, where pairs and taken together are fewer than a list may have
 abbrev pub next_spare_of : DefectMap → List Psn → Option Psn
 next_spare_of m taken =
-    if nat_lt (length m.grown + length taken) LIST_LENGTH_MAX
+    if nat_lt (length m.grown + length taken) PAIRS_MAX
     then option_map sector (find (is_free m.grown taken) (spares m.size m.primary))
     else None
 
@@ -82,7 +82,7 @@ AscendsWithin low high (p ∷ ps) = (low ≤ p.0) × (p.0 < high) × AscendsWith
 -- what a primary list may be: user sectors, strictly ascending, no more than a list may have and than are kept back
 pub record IsPrimaryList (size : Size) (primary : List Psn) : Type 0 where
   pub ascending : AscendsWithin 16 (total_of size) primary
-  pub few : length primary ≤ LIST_LENGTH_MAX
+  pub few : length primary ≤ PRIMARY_MAX
   pub kept_back : length primary ≤ size.reserved
 
 -- old is a user sector, and new is a spare
@@ -99,7 +99,7 @@ HaveOwnSpares p q = p.new.0 ≢ q.new.0
 pub record IsGrownList (size : Size) (primary : List Psn) (grown : List Pair) : Type 0 where
   pub pairs : All (IsPair size primary) grown
   pub own_spares : AllPairs HaveOwnSpares grown
-  pub few : length grown ≤ LIST_LENGTH_MAX
+  pub few : length grown ≤ PAIRS_MAX
 
 -- the lists of a valid map
 pub record IsValidMap (m : DefectMap) : Type 0 where

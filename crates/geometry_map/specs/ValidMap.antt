@@ -2,7 +2,7 @@
 use Rattle.std.specs.Prelude.{ℕ, ◌+◌, ◌==◌, ◌&&◌, ◌↔◌, not, nat_le, nat_lt, Bool, true, List, [], ◌∷◌, length, IsTrue}
 use Rattle.std.specs.List.{list_any, list_all}
 use Rattle.disk_base.specs.declared.address.Psn.{Psn}
-use Rattle.geometry_map.specs.declared.limits.TheConstants.{LIST_LENGTH_MAX}
+use Rattle.geometry_map.specs.declared.limits.TheConstants.{PRIMARY_MAX, PAIRS_MAX}
 use Rattle.geometry_map.specs.declared.size.Size.{Size}
 use Rattle.geometry_map.specs.declared.pair.Pair.{Pair}
 use Rattle.geometry_map.specs.Size.{total_of}
@@ -25,11 +25,11 @@ have_own_spares (pair ∷ pairs) = not (list_any (λ later. later.new.0 == pair.
 
 abbrev pub is_primary_list : Size → List Psn → Bool
 is_primary_list size primary =
-    ascends_within 16 (total_of size) primary && (nat_le (length primary) LIST_LENGTH_MAX && nat_le (length primary) size.reserved)
+    ascends_within 16 (total_of size) primary && (nat_le (length primary) PRIMARY_MAX && nat_le (length primary) size.reserved)
 
 abbrev pub is_grown_list : Size → List Psn → List Pair → Bool
 is_grown_list size primary grown =
-    list_all (is_pair size primary) grown && (have_own_spares grown && nat_le (length grown) LIST_LENGTH_MAX)
+    list_all (is_pair size primary) grown && (have_own_spares grown && nat_le (length grown) PAIRS_MAX)
 
 -- whether a map is valid
 abbrev pub is_valid_map : DefectMap → Bool

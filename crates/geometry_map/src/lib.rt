@@ -1,6 +1,7 @@
 //! Where the blocks of a drive lie: its measures, the map of its defects, the place of each block and the next spare.
 #![tactic(auto)]
 
+mod chains;
 mod limits;
 mod lists;
 mod map;
@@ -12,8 +13,12 @@ mod slips;
 #[cfg(test)]
 mod tests;
 
+pub use chains::{
+    a_chain_moves_one_block, a_chain_of_free_spares_fits, no_block_is_at_a_free_spare,
+    the_next_spare_is_free,
+};
 pub use limits::{
-    CYLINDERS_MAX, HEADS_MAX, LIST_LENGTH_MAX, MAP_SECTORS, SECTORS_MAX, SECTORS_MIN,
+    CYLINDERS_MAX, HEADS_MAX, MAP_SECTORS, PAIRS_MAX, PRIMARY_MAX, SECTORS_MAX, SECTORS_MIN,
     TRACK_SECTORS_MAX,
 };
 pub use map::{

@@ -13,5 +13,8 @@ pub const HEADS_MAX: u8 = 16;
 /// The greatest number of sectors of a track.
 pub const TRACK_SECTORS_MAX: u8 = 64;
 
-/// The greatest number of entries of the primary list, and of pairs of the grown list.
-pub const LIST_LENGTH_MAX: usize = 128;
+/// The greatest number of entries of the primary list.
+pub const PRIMARY_MAX: usize = 128;
+
+/// The greatest number of pairs of the grown list.
+pub const PAIRS_MAX: usize = 128;

@@ -5,13 +5,13 @@ ghost use Rattle.geometry_map.specs.DefectMap.{IsPrimaryList, AscendsWithin, IsP
 ghost use Rattle.geometry_map.specs.Size.{total_of};
 
 use crate::slips::is_spare;
-use crate::{LIST_LENGTH_MAX, MAP_SECTORS, Pair, Size};
+use crate::{MAP_SECTORS, PAIRS_MAX, PRIMARY_MAX, Pair, Size};
 use disk_base::Psn;
 
 pub fn is_primary_list(size: &Size, primary: &[Psn]) -> bool
     ensures { IsTrue result ↔ IsPrimaryList size.now primary.now }
 {
-    primary.len() <= LIST_LENGTH_MAX
+    primary.len() <= PRIMARY_MAX
         && primary.len() <= usize::from(size.reserved)
         && ascends_within(MAP_SECTORS, size.total(), primary)
 }
@@ -33,7 +33,7 @@ pub fn is_grown_list(size: &Size, primary: &[Psn], grown: &[Pair]) -> bool
     requires { IsPrimaryList size.now primary.now }
     ensures { IsTrue result ↔ IsGrownList size.now primary.now grown.now }
 {
-    grown.len() <= LIST_LENGTH_MAX
+    grown.len() <= PAIRS_MAX
         && grown.iter().all(|pair| is_pair(size, primary, pair))
         && have_own_spares(grown)
 }

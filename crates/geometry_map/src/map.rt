@@ -10,7 +10,7 @@ ghost use Rattle.geometry_map.specs.ValidMap.{TestTellsValidMaps};
 use crate::lists::{is_grown_list, is_primary_list};
 use crate::sectors::Sectors;
 use crate::slips::{first_open, first_spare, go_through, slip};
-use crate::{LIST_LENGTH_MAX, MAP_SECTORS, Pair, Size};
+use crate::{MAP_SECTORS, PAIRS_MAX, Pair, Size};
 use arrayvec::ArrayVec;
 use disk_base::{Lba, Psn};
 use std::marker::Model;
@@ -21,7 +21,7 @@ use std::marker::Model;
 pub struct Map {
     size: Size,
     primary: Sectors,
-    grown: ArrayVec<Pair, LIST_LENGTH_MAX>,
+    grown: ArrayVec<Pair, PAIRS_MAX>,
     number: u64,
     slot: u8,
     state: u8,
@@ -139,7 +139,7 @@ impl Map {
         ensures { result ≡ next_spare_of self.now taken.now }
     {
         self.lists_are_valid();
-        if taken.len() >= LIST_LENGTH_MAX - self.grown().len() {
+        if taken.len() >= PAIRS_MAX - self.grown().len() {
             return None;
         }
         let first = first_spare(&self.size(), self.primary());
@@ -192,8 +192,8 @@ impl Map {
     }
 }
 
-fn joined(pairs: &[Pair], more: &[Pair]) -> ArrayVec<Pair, LIST_LENGTH_MAX>
-    requires { length (pairs.now ++ more.now) ≤ LIST_LENGTH_MAX }
+fn joined(pairs: &[Pair], more: &[Pair]) -> ArrayVec<Pair, PAIRS_MAX>
+    requires { length (pairs.now ++ more.now) ≤ PAIRS_MAX }
     ensures { result.items ≡ pairs.now ++ more.now }
 {
     let mut list = ArrayVec::new();

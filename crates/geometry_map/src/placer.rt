@@ -6,7 +6,7 @@ ghost use Rattle.geometry_map.specs.Size.{capacity_of};
 ghost use Rattle.geometry_map.specs.Placer.{gaps_of, route_of, is_moved, remap_of, IsPlacerOf, RoutesAscend};
 
 use crate::slips::go_through;
-use crate::{LIST_LENGTH_MAX, MAP_SECTORS, Map, Pair, SECTORS_MAX};
+use crate::{MAP_SECTORS, Map, PAIRS_MAX, PRIMARY_MAX, Pair, SECTORS_MAX};
 use arrayvec::ArrayVec;
 use disk_base::{Lba, Psn};
 
@@ -14,9 +14,9 @@ use disk_base::{Lba, Psn};
 #[derive(Debug, Drop)]
 pub struct Placer {
     /// How many blocks start below each primary defect, ascending.
-    pub gaps: ArrayVec<u32, LIST_LENGTH_MAX>,
+    pub gaps: ArrayVec<u32, PRIMARY_MAX>,
     /// Where each block that was moved starts, and where it is; strictly ascending by start.
-    pub remap: ArrayVec<Pair, LIST_LENGTH_MAX>,
+    pub remap: ArrayVec<Pair, PAIRS_MAX>,
 }
 
 impl Placer {
@@ -70,9 +70,9 @@ fn route_from(remap: &[Pair], start: Psn) -> Result<usize, usize>
     remap.binary_search_by_key(&start.0, |route| route.old.0)
 }
 
-fn gaps(primary: &[Psn], total: u32) -> ArrayVec<u32, LIST_LENGTH_MAX>
+fn gaps(primary: &[Psn], total: u32) -> ArrayVec<u32, PRIMARY_MAX>
     requires ascending { AscendsWithin 16 total primary.now }
-    requires few { length primary.now ≤ LIST_LENGTH_MAX }
+    requires few { length primary.now ≤ PRIMARY_MAX }
     ensures { result.items ≡ gaps_of primary.now }
 {
     let mut gaps = ArrayVec::new();
@@ -82,7 +82,7 @@ fn gaps(primary: &[Psn], total: u32) -> ArrayVec<u32, LIST_LENGTH_MAX>
     gaps
 }
 
-fn remap(map: &Map) -> ArrayVec<Pair, LIST_LENGTH_MAX>
+fn remap(map: &Map) -> ArrayVec<Pair, PAIRS_MAX>
     ensures { result.items ≡ remap_of map.now }
 {
     map.lists_are_valid();

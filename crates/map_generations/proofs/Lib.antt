@@ -8,3 +8,4 @@ pub mod SafeReads
 pub mod SafeWrites
 pub mod SafeExamples
 pub mod SafeChains
+pub mod ToldLemmas

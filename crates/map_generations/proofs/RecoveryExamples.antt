@@ -1,5 +1,5 @@
 -- What recovery takes of the sectors of a drive of 16 cylinders with 4 heads and 16 sectors on a track, and what it doesn't.
-use Rattle.std.proofs.Common.{◌≡◌, ℕ, ◌-◌, ◌^◌, ◌<◌, [], replicate, refl, lit≤, lit<, arith, Some, None, inl, inr}
+use Rattle.std.proofs.Common.{◌≡◌, ℕ, ◌-◌, ◌^◌, ◌<◌, [], ◌∷◌, replicate, refl, lit≤, lit<, arith, Some, None, inl, inr}
 use Rattle.std.proofs.lemmas.Option.{cond_some}
 use Rattle.std.proofs.lemmas.List.Elements.{All-nil}
 use Rattle.std.specs.Prelude.{◌==◌, nat_lt, if◌then◌else◌, Option}
@@ -10,6 +10,7 @@ use Rattle.geometry_map.specs.DefectMap.{DefectMap, sector, map_of, IsPair, IsVa
 use Rattle.map_generations.specs.MapRecord.{map_record, record_sector}
 use Rattle.map_generations.specs.Recovery.{Reads, as_counted, is_record, as_record, record_in, LastIsOlder, HasMap, IsComplete, IsTaken, IsCorrupt}
 use Rattle.map_generations.specs.Laws.{IsReadable}
+use Rattle.map_generations.specs.Told.{map_told}
 use Rattle.map_generations.proofs.Rule.{four, first_or_some, carries_number, written_complete, not_both}
 
 abbrev drive : Size
@@ -223,3 +224,24 @@ slot_0_makes_it_corrupt = record {
     λ (older, smaller, p, e). absurd (cc e),
   );
 }
+
+-- copy 0 of a slot tells the map that stands there
+told_in_slot_0 : map_told drive fresh 0 ≡ empty_map 1 0
+told_in_slot_0 = refl
+
+told_in_slot_1 : map_told drive fresh 1 ≡ empty_map 2 1
+told_in_slot_1 = refl
+
+-- with both lists and the state
+abbrev with_defects : DefectMap
+with_defects = map_of drive (sector 20 ∷ []) (record { old = sector 16; new = sector 929 } ∷ record { old = sector 929; new = sector 930 } ∷ []) 3 1 0
+
+told_with_defects : map_told drive (λ p. whole with_defects (p - 8)) 1 ≡ with_defects
+told_with_defects = refl
+
+-- where nothing reads, a map of number 0 is told; copy 1 isn't looked at
+told_of_nothing : map_told drive (λ p. None) 1 ≡ empty_map 0 1
+told_of_nothing = refl
+
+told_by_copy_0_alone : map_told drive (with_read fresh 8 None) 1 ≡ empty_map 0 1
+told_by_copy_0_alone = refl

@@ -8,7 +8,7 @@ use Rattle.geometry_map.specs.declared.size.Size.{Size}
 use Rattle.geometry_map.specs.DefectMap.{DefectMap, IsValidMap, map_of}
 use Rattle.map_generations.specs.declared.recovery.Decision.{Decision}
 use Rattle.map_generations.specs.declared.recovery.Decision.TheVariants.{Take, Corrupt}
-use Rattle.map_generations.specs.MapRecord.{record_bytes, record_sector, map_record}
+use Rattle.map_generations.specs.MapRecord.{record_bytes, record_sector, map_record, IsState}
 use Rattle.map_generations.specs.Recovery.{Reads, is_record, as_record, first_or, record_in, Carries, IsComplete, HasMap, IsLatest, LastIsOlder, IsNoOlder, IsTaken, IsCorrupt, IsDecided}
 use Rattle.map_generations.specs.Laws.{IsReadable}
 use Rattle.map_generations.specs.Reading.{IsNumbered, AreRecordsOf, later_map, later_of, IsLatestOf, IsDecidedAlone}
@@ -102,9 +102,11 @@ module _ (size : Size) (reads : Reads) where
       (let found = of_m.records index within in
       let also = carried n m.slot m.number index found.0 of_n (sym slots) (sym numbers) within found.1 in
       sym found.2.bytes ∙ also.bytes) in
+      let first = of_m.records 0 (lit< tt) in
+      let also = carried n m.slot m.number 0 first.0 of_n (sym slots) (sym numbers) (lit< tt) first.1 in
       let alike = records-tell m n of_m.valid of_n.valid same in
       let sizes : m.size ≡ n.size = of_m.of_drive ∙ sym of_n.of_drive in
-      let states : m.state ≡ n.state = of_m.in_use ∙ sym of_n.in_use in
+      let states : m.state ≡ n.state = sym first.2.state ∙ also.state in
       let primaries = alike.primary in
       let growns = alike.grown in
       let parts : map_of m.size m.primary m.grown m.number m.slot m.state ≡ map_of n.size n.primary n.grown n.number n.slot n.state = cc in
@@ -118,7 +120,7 @@ module _ (size : Size) (reads : Reads) where
       same_map m n of_m.complete of_n.complete slots (omega arith)
 
   -- a slot that a map was written to is complete for it, where each record reads
-  pub written_complete : (m : DefectMap) → m.size ≡ size → IsValidMap m → m.state ≡ 0 → ((index : ℕ) → index < 4 → IsReadable m reads index)
+  pub written_complete : (m : DefectMap) → m.size ≡ size → IsValidMap m → IsState m.state → ((index : ℕ) → index < 4 → IsReadable m reads index)
       → IsComplete size reads m
   written_complete m of_drive valid in_use readable = record {
     valid = valid;

@@ -1,5 +1,5 @@
 -- The maps of a new drive, and its first commit: what is safe there, and what is not.
-use Rattle.std.proofs.Common.{◌≡◌, ◌-◌, ◌%◌, ◌<◌, List, [], Some, None, refl, subst, arith, lit<, lit≤, inl, inr}
+use Rattle.std.proofs.Common.{◌≡◌, ℕ, zero, suc, ◌-◌, ◌/◌, ◌%◌, ◌<◌, ◌≤◌, List, [], Some, None, refl, subst, arith, lit<, lit≤, inl, inr}
 use Rattle.std.specs.Prelude.{◌==◌}
 use Rattle.std.proofs.lemmas.Bool.{cases_Bool, cases_eq}
 use Rattle.disk_base.specs.declared.address.Psn.{Psn}
@@ -8,10 +8,17 @@ use Rattle.geometry_map.specs.declared.pair.Pair.{Pair}
 use Rattle.geometry_map.specs.DefectMap.{DefectMap, IsValidMap, map_of, factory_map}
 use Rattle.map_generations.specs.MapRecord.{map_record}
 use Rattle.map_generations.specs.Recovery.{Reads}
-use Rattle.map_generations.specs.SafeMaps.{MayBeTaken, KeptPair, with_map, alone, AreValid, IsKept, HasRecord, Belongs, SafeMaps, IsPresent, written, written_to}
+use Rattle.map_generations.specs.SafeMaps.{MayBeTaken, KeptPair, with_map, alone, AreValid, IsKept, HasRecord, Belongs, SafeMaps, IsPresent, written, written_to, NumbersUpTo}
 use Rattle.map_generations.proofs.SafeReads.{kept-taken, may-present}
-use Rattle.map_generations.proofs.SafeWrites.{kept_since, present-safe, present-safe_alone}
+use Rattle.map_generations.proofs.SafeWrites.{kept_since, present-safe, present-safe_alone, numbers-written}
 use Rattle.map_generations.proofs.SafeChains.{commits-safe, written-present}
+
+-- the records of a map bring no greater number than its own
+numbers_of_writes : (meant : Reads) (m : DefectMap) (number : ℕ) → m.number ≤ number → NumbersUpTo meant number → (count : ℕ) → NumbersUpTo (written_to m count meant) number
+numbers_of_writes meant m number within up_to zero = up_to
+numbers_of_writes meant m number within up_to (suc count) =
+    numbers-written (written_to m count meant) (written_to m (suc count) meant) m (count / 4) (count % 4) number
+    (numbers_of_writes meant m number within up_to count) within (inr (inl refl))
 
 module _ (size : Size) (primary : List Psn) (valid_map : IsValidMap (factory_map size primary)) where
   -- the factory writes the same map twice, with number 1 to slot 0 and with number 2 to slot 1
@@ -36,6 +43,17 @@ module _ (size : Size) (primary : List Psn) (valid_map : IsValidMap (factory_map
 
   no_more : fresh 16 ≡ None
   no_more = refl
+
+  -- no number is above 2, and one is above 1
+  no_number_above_2 : NumbersUpTo fresh 2
+  no_number_above_2 =
+      numbers_of_writes (written_to first 8 (λ p. None)) second 2 (lit≤ tt)
+      (numbers_of_writes (λ p. None) first 2 (lit≤ tt) (λ s c i p has. let none : None ≡ Some p = has.there in absurd (cc)) 8) 8
+
+  a_number_above_1 : NumbersUpTo fresh 1 → ⊥
+  a_number_above_1 up_to =
+      let above : 2 ≤ 1 = up_to 1 0 0 (map_record second 0 0) (record { a_slot = lit< tt; a_copy = lit< tt; an_index = lit< tt; there = refl; kind = refl; own_index = refl }) in
+      omega (arith, above)
 
   -- so map 2 is present
   new_map_is_present : IsPresent fresh second

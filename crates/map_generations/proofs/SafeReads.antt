@@ -8,7 +8,7 @@ use Rattle.geometry_map.specs.DefectMap.{DefectMap}
 use Rattle.map_generations.specs.MapRecord.{record_bytes, record_sector, map_record}
 use Rattle.map_generations.specs.Recovery.{Reads, as_counted, counted, is_record, as_record, first_or, Carries, IsComplete, IsTaken}
 use Rattle.map_generations.specs.SafeMaps.{AreReadFrom, MayBeTaken, KeptPair, kept_for, AreValid, IsKept, HasRecord, Belongs, StaleAreBelow, SafeMaps, StandsTo}
-use Rattle.map_generations.specs.SafetyLaws.{RecoveryTakesKeptMaps, OneSlotIsWorn, RecoveryTakesThePresentMap, PresentMapsAreTaken, PresentMapsMayBeTaken, TakenNumbersAreSmall}
+use Rattle.map_generations.specs.SafetyLaws.{RecoveryTakesKeptMaps, OneSlotIsWorn, RecoveryTakesThePresentMap, PresentMapsAreTaken, PresentMapsMayBeTaken, TakenNumbersAreSmall, TakenNumbersAreMeant}
 use Rattle.map_generations.proofs.ReadBack.{records-tell}
 use Rattle.map_generations.proofs.SafeRecords.{belongs_above}
 
@@ -165,6 +165,13 @@ small-taken size meant m may =
     let one = complete_records size (counted may.reads) (counted may.reads) self m may.taken.slot may.taken.latest.complete 0 (lit< tt) in
     let small : one.1.address < 2 ^ 63 = counted_is_small (may.reads (record_sector m.slot one.0 0).0) one.1 one.2.there in
     subst (λ (t : ℕ). t < 2 ^ 63) one.3 small
+
+-- and it is meant
+pub numbers-taken : TakenNumbersAreMeant
+numbers-taken size meant m number may up_to =
+    let reads : Reads = counted may.reads in
+    let one = complete_records size meant reads (counted_are_read meant may.reads may.read) m may.taken.slot may.taken.latest.complete 0 (lit< tt) in
+    omega (arith, one.3, up_to m.slot one.0 0 one.1 one.2)
 
 -- where a map stands whole, each record of its slot is its own
 pub whole_record : (meant : Reads) (m : DefectMap) → StandsTo meant m 8 → (slot copy index : ℕ) (p : Payload)

@@ -8,8 +8,8 @@ use Rattle.disk_base.specs.declared.payload.Payload.{Payload}
 use Rattle.geometry_map.specs.DefectMap.{DefectMap, IsValidMap}
 use Rattle.map_generations.specs.MapRecord.{record_sector, map_record}
 use Rattle.map_generations.specs.Recovery.{Reads}
-use Rattle.map_generations.specs.SafeMaps.{KeptPair, kept_for, with_map, alone, AreValid, AreOneMap, IsKept, HasRecord, Belongs, StaleAreBelow, SafeMaps, StandsTo, IsPresent, MayBeWritten}
-use Rattle.map_generations.specs.SafetyLaws.{PresentMapsAreSafe, PresentMapsAreSafeAlone, PairsMayGrow, CommitsBegin, RecoveriesBegin, RecoveriesGoOn, RecordsStand, OtherSlotsStand, WritesKeepMapsSafe, TornWritesKeepMapsSafe, SafetyIsByPlace}
+use Rattle.map_generations.specs.SafeMaps.{KeptPair, kept_for, with_map, alone, AreValid, AreOneMap, IsKept, HasRecord, Belongs, StaleAreBelow, SafeMaps, StandsTo, IsPresent, MayBeWritten, NumbersUpTo}
+use Rattle.map_generations.specs.SafetyLaws.{PresentMapsAreSafe, PresentMapsAreSafeAlone, PairsMayGrow, CommitsBegin, RecoveriesBegin, RecoveriesGoOn, RecordsStand, OtherSlotsStand, WritesKeepMapsSafe, TornWritesKeepMapsSafe, SafetyIsByPlace, WritesKeepNumbers, NumbersAreByPlace}
 use Rattle.map_generations.proofs.SafeRecords.{kept_renamed, kept_belongs, record-put, safe_of_less, stale_of_less, stale_after, safe_after}
 use Rattle.map_generations.proofs.SafeReads.{kept-taken, stale_below-may, whole_record}
 
@@ -226,6 +226,29 @@ torn-safe meant torn pair m copy index may left =
       ]
     ]
 
+pub numbers-written : WritesKeepNumbers
+numbers-written meant after m copy index number up_to within left =
+    let q : ℕ = (record_sector m.slot copy index).0 in
+    let r : Payload = map_record m copy index in
+    let P : Reads → Type 0 = λ t. NumbersUpTo t number in
+    elim left [
+      | inl same ↦ subst P (sym same) up_to
+      | inr changed ↦ elim changed [
+        | inl new ↦
+            let put : NumbersUpTo (put_at q (Some r) meant) number =
+            λ s c i p has.
+            elim (record-put meant q (Some r) s c i p has) [
+              | inl w ↦ let same : r ≡ p = cc in omega (arith, ap (λ (t : Payload). t.address) same)
+              | inr w ↦ up_to s c i p w
+            ] in
+            subst P (sym new) put
+        | inr none ↦
+            let taken : NumbersUpTo (put_at q None meant) number =
+            λ s c i p has. elim (record-put meant q None s c i p has) [ inl w ↦ absurd (cc) | inr w ↦ up_to s c i p w ] in
+            subst P (sym none) taken
+      ]
+    ]
+
 -- what is a record where the same is meant, is one
 record_at_same : (meant other : Reads) → ((p : ℕ) → p < 16 → meant p ≡ other p) → (slot copy index : ℕ) (p : Payload)
     → HasRecord other slot copy index p → HasRecord meant slot copy index p
@@ -266,3 +289,6 @@ safety-by_place meant other same =
           },
       λ m count a_slot stands. stand_at_same meant other same m count a_slot stands,
     )
+
+pub numbers-by_place : NumbersAreByPlace
+numbers-by_place meant other same number up_to slot copy index p has = up_to slot copy index p (record_at_same meant other same slot copy index p has)

@@ -4,7 +4,7 @@ use Rattle.geometry_map.specs.declared.size.Size.{Size}
 use Rattle.geometry_map.specs.Size.{HasMeasures}
 use Rattle.geometry_map.specs.DefectMap.{DefectMap, IsValidMap}
 use Rattle.map_generations.specs.declared.recovery.Decision.{Decision}
-use Rattle.map_generations.specs.MapRecord.{record_bytes, record_sector, map_record}
+use Rattle.map_generations.specs.MapRecord.{record_bytes, record_sector, map_record, IsState}
 use Rattle.map_generations.specs.Recovery.{Reads, IsComplete, IsDecided}
 
 -- the maps are of drives with the same measures, and have the same lists
@@ -30,5 +30,5 @@ IsReadable m reads index =
 
 -- a slot that a valid map was written to is complete for it, where each record reads in one of the copies at least
 abbrev pub WrittenSlotsAreComplete : Type 0
-WrittenSlotsAreComplete = (m : DefectMap) (reads : Reads) → IsValidMap m → m.state ≡ 0 → ((index : ℕ) → index < 4 → IsReadable m reads index)
+WrittenSlotsAreComplete = (m : DefectMap) (reads : Reads) → IsValidMap m → IsState m.state → ((index : ℕ) → index < 4 → IsReadable m reads index)
     → IsComplete m.size reads m

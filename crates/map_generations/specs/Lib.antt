@@ -3,4 +3,5 @@ pub mod Laws
 pub mod Recovery
 pub mod Reading
 pub mod SafeMaps
+pub mod Told
 pub mod SafetyLaws

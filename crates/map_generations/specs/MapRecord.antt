@@ -1,5 +1,5 @@
 -- The records of a map: what the sectors that hold it carry, field by field, each number high byte first.
-use Rattle.std.specs.Prelude.{ℕ, ◌+◌, ◌-◌, ◌*◌, ◌==◌, if◌then◌else◌, List, ◌∷◌, ◌++◌, length, take, drop, replicate}
+use Rattle.std.specs.Prelude.{◌≡◌, ℕ, ◌+◌, ◌-◌, ◌*◌, ◌==◌, if◌then◌else◌, List, ◌∷◌, ◌++◌, length, take, drop, replicate}
 use Rattle.std.specs.List.{flat_map}
 use Rattle.std.specs.Int.{w16, w32, to_be_bytes}
 use Rattle.disk_base.specs.declared.address.Psn.{Psn}
@@ -7,6 +7,11 @@ use Rattle.disk_base.specs.declared.payload.Payload.{Payload}
 use Rattle.disk_base.specs.Payload.{record_payload}
 use Rattle.geometry_map.specs.declared.pair.Pair.{Pair}
 use Rattle.geometry_map.specs.DefectMap.{DefectMap, sector}
+use Rattle.map_generations.specs.declared.record.TheConstants.{IN_USE}
+
+-- the states that a map may have: it is in use
+abbrev pub IsState : ℕ → Type 0
+IsState state = state ≡ IN_USE
 
 -- a sector's number in four bytes
 abbrev pub sector_bytes : Psn → List ℕ

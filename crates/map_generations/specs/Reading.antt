@@ -8,6 +8,7 @@ use Rattle.geometry_map.specs.declared.pair.Pair.{Pair}
 use Rattle.geometry_map.specs.DefectMap.{DefectMap, IsValidMap, sector}
 use Rattle.map_generations.specs.declared.recovery.Decision.{Decision}
 use Rattle.map_generations.specs.declared.recovery.Decision.TheVariants.{Take, Corrupt}
+use Rattle.map_generations.specs.MapRecord.{IsState}
 use Rattle.map_generations.specs.Recovery.{Reads, Carries, HasMap, IsLatest, LastIsOlder}
 
 -- the sector whose number stands in front
@@ -34,7 +35,7 @@ pub record IsNumbered (size : Size) (slot number : ℕ) (m : DefectMap) : Type 0
   pub of_drive : m.size ≡ size
   pub of_slot : m.slot ≡ slot
   pub of_number : m.number ≡ number
-  pub in_use : m.state ≡ 0
+  pub in_use : IsState m.state
 
 -- four payloads carry the records of a map
 pub record AreRecordsOf (m : DefectMap) (sectors pairs later_pairs measures : Payload) : Type 0 where

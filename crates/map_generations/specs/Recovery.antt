@@ -5,7 +5,7 @@ use Rattle.geometry_map.specs.declared.size.Size.{Size}
 use Rattle.geometry_map.specs.DefectMap.{DefectMap, IsValidMap}
 use Rattle.map_generations.specs.declared.recovery.Decision.{Decision}
 use Rattle.map_generations.specs.declared.recovery.Decision.TheVariants.{Take, Corrupt}
-use Rattle.map_generations.specs.MapRecord.{record_bytes, record_sector}
+use Rattle.map_generations.specs.MapRecord.{record_bytes, record_sector, IsState}
 
 -- what each sector reads as: a payload or nothing
 abbrev pub Reads : Type 0
@@ -53,7 +53,7 @@ pub record Carries (m : DefectMap) (index : ℕ) (p : Payload) : Type 0 where
 pub record IsComplete (size : Size) (reads : Reads) (m : DefectMap) : Type 0 where
   pub valid : IsValidMap m
   pub of_drive : m.size ≡ size
-  pub in_use : m.state ≡ 0
+  pub in_use : IsState m.state
   pub records : (index : ℕ) → index < 4 → (p : Payload) × (record_in reads m.slot m.number index ≡ Some p) × Carries m index p
 
 -- a slot is complete for some number

@@ -1,5 +1,5 @@
 -- What is meant on the sectors of the maps, and where it is so that recovery never takes a map that is not kept.
-use Rattle.std.specs.Prelude.{◌≡◌, ℕ, zero, suc, ◌+◌, ◌-◌, ◌*◌, ◌/◌, ◌%◌, ◌<◌, ◌==◌, ◌⊎◌, if◌then◌else◌, Option, Some, None}
+use Rattle.std.specs.Prelude.{◌≡◌, ℕ, zero, suc, ◌+◌, ◌-◌, ◌*◌, ◌/◌, ◌%◌, ◌<◌, ◌≤◌, ◌==◌, ◌⊎◌, if◌then◌else◌, Option, Some, None}
 use Rattle.disk_base.specs.At.{put_at}
 use Rattle.disk_base.specs.declared.payload.Payload.{Payload}
 use Rattle.geometry_map.specs.declared.size.Size.{Size}
@@ -112,3 +112,7 @@ written_to m (suc count) meant = written m (count / 4) (count % 4) (written_to m
 abbrev pub IsLeftTorn : ℕ → Payload → Reads → Reads → Type 0
 IsLeftTorn p payload before after =
     (after ≡ before) ⊎ ((after ≡ put_at p (Some payload) before) ⊎ (after ≡ put_at p None before))
+
+-- each record that is meant has a number of at most this one
+abbrev pub NumbersUpTo : Reads → ℕ → Type 0
+NumbersUpTo meant number = (slot copy index : ℕ) (p : Payload) → HasRecord meant slot copy index p → p.address ≤ number

@@ -3,9 +3,9 @@ use Rattle.std.specs.Prelude.{◌≡◌, ℕ, ◌+◌, ◌-◌, ◌*◌, ◌^◌
 use Rattle.disk_base.specs.declared.payload.Payload.{Payload}
 use Rattle.geometry_map.specs.declared.size.Size.{Size}
 use Rattle.geometry_map.specs.DefectMap.{DefectMap, IsValidMap}
-use Rattle.map_generations.specs.MapRecord.{record_sector, map_record}
+use Rattle.map_generations.specs.MapRecord.{record_sector, map_record, IsState}
 use Rattle.map_generations.specs.Recovery.{Reads, IsTaken}
-use Rattle.map_generations.specs.SafeMaps.{KeptPair, MayBeTaken, kept_for, with_map, alone, AreValid, AreOneMap, IsKept, HasRecord, Belongs, SafeMaps, StandsTo, IsPresent, MayBeWritten, written, written_to, IsLeftTorn}
+use Rattle.map_generations.specs.SafeMaps.{KeptPair, MayBeTaken, kept_for, with_map, alone, AreValid, AreOneMap, IsKept, HasRecord, Belongs, SafeMaps, StandsTo, IsPresent, MayBeWritten, written, written_to, IsLeftTorn, NumbersUpTo}
 
 -- where the maps are safe, recovery takes a kept map, whichever sectors can be read
 abbrev pub RecoveryTakesKeptMaps : Type 0
@@ -26,16 +26,26 @@ RecoveryTakesThePresentMap = (size : Size) (meant : Reads) (m taken : DefectMap)
 -- where a map is present and in use, the rule takes it from what is meant
 abbrev pub PresentMapsAreTaken : Type 0
 PresentMapsAreTaken = (meant : Reads) (m : DefectMap)
-    → IsPresent meant m → IsValidMap m → m.state ≡ 0 → IsTaken m.size meant m
+    → IsPresent meant m → IsValidMap m → IsState m.state → IsTaken m.size meant m
 
 -- and recovery may take it, where its number is below 2^63
 abbrev pub PresentMapsMayBeTaken : Type 0
 PresentMapsMayBeTaken = (meant : Reads) (m : DefectMap)
-    → IsPresent meant m → IsValidMap m → m.state ≡ 0 → m.number < 2 ^ 63 → MayBeTaken m.size meant m
+    → IsPresent meant m → IsValidMap m → IsState m.state → m.number < 2 ^ 63 → MayBeTaken m.size meant m
 
 -- recovery takes no number from 2^63 up
 abbrev pub TakenNumbersAreSmall : Type 0
 TakenNumbersAreSmall = (size : Size) (meant : Reads) (m : DefectMap) → MayBeTaken size meant m → m.number < 2 ^ 63
+
+-- a map that may be taken has a number that is meant: what no meant number is above, it is not above either
+abbrev pub TakenNumbersAreMeant : Type 0
+TakenNumbersAreMeant = (size : Size) (meant : Reads) (m : DefectMap) (number : ℕ)
+    → MayBeTaken size meant m → NumbersUpTo meant number → m.number ≤ number
+
+-- a write of a record of a map, whole or cut off, brings no greater number than the map's
+abbrev pub WritesKeepNumbers : Type 0
+WritesKeepNumbers = (meant after : Reads) (m : DefectMap) (copy index number : ℕ) → NumbersUpTo meant number → m.number ≤ number
+    → IsLeftTorn (record_sector m.slot copy index).0 (map_record m copy index) meant after → NumbersUpTo after number
 
 -- a present map is safe in each pair that keeps it, whatever is kept beside it
 abbrev pub PresentMapsAreSafe : Type 0
@@ -123,6 +133,11 @@ SafetyIsByPlace = (meant other : Reads) → ((p : ℕ) → p < 16 → meant p �
     × ((pair : KeptPair) (m : DefectMap) → MayBeWritten meant pair m → MayBeWritten other pair m)
     × ((m : DefectMap) → IsPresent meant m → IsPresent other m)
     × ((m : DefectMap) (count : ℕ) → m.slot < 2 → StandsTo meant m count → StandsTo other m count)
+
+-- and the numbers are
+abbrev pub NumbersAreByPlace : Type 0
+NumbersAreByPlace = (meant other : Reads) → ((p : ℕ) → p < 16 → meant p ≡ other p)
+    → (number : ℕ) → NumbersUpTo meant number → NumbersUpTo other number
 
 -- the sixteen records have sectors of their own
 abbrev pub RecordsHaveOwnSectors : Type 0

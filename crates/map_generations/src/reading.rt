@@ -1,17 +1,14 @@
 //! The map that the data of records say.
-ghost use Rattle.std.specs.Prelude.{◌≡◌, ◌+◌, ◌≤◌, ◌++◌, length, drop, slice_range, IfSome};
+ghost use Rattle.std.specs.Prelude.{◌≡◌, ◌+◌, ◌≤◌, ◌++◌, ◌↔◌, length, drop, slice_range, IsTrue, IfSome};
 ghost use Rattle.std.specs.Int.{w16, from_be_bytes};
 ghost use Rattle.geometry_map.specs.DefectMap.{DefectMap};
-ghost use Rattle.map_generations.specs.MapRecord.{record_bytes};
+ghost use Rattle.map_generations.specs.MapRecord.{record_bytes, IsState};
 ghost use Rattle.map_generations.specs.Reading.{sector_in, pair_in, sectors_in, pairs_in, IsNumbered};
 
-use crate::record::RECORD_PAIRS;
+use crate::record::{IN_USE, RECORD_PAIRS};
 use arrayvec::ArrayVec;
 use disk_base::{BLOCK_LENGTH, Block, Payload, Psn};
-use geometry_map::{LIST_LENGTH_MAX, Map, Pair, Size};
-
-/// The state of a map that is in use.
-const IN_USE: u8 = 0;
+use geometry_map::{Map, PAIRS_MAX, PRIMARY_MAX, Pair, Size};
 
 /// The four records of a map.
 #[derive(Clone, Copy)]
@@ -22,17 +19,18 @@ pub struct Records<'a> {
     pub measures: &'a Payload,
 }
 
-/// A map of this drive by the lists that the records' data say, whatever else stands in them.
+/// A map of this drive by the lists that the records' data say, whatever else stands in them, in the first record's state.
 pub fn map_read(size: &Size, slot: u8, number: u64, records: &Records) -> Option<Map>
     ensures numbered { IfSome result (IsNumbered size.now slot number) }
 
     // The only map that may have these data.
-    ensures only { (m : DefectMap) → IsNumbered size.now slot number m → record_bytes m 0 ≡ records.now.sectors.now.block
-        → record_bytes m 1 ≡ records.now.pairs.now.block → record_bytes m 2 ≡ records.now.later_pairs.now.block
+    ensures only { (m : DefectMap) → IsNumbered size.now slot number m → m.state ≡ records.now.sectors.now.state
+        → record_bytes m 0 ≡ records.now.sectors.now.block → record_bytes m 1 ≡ records.now.pairs.now.block → record_bytes m 2 ≡ records.now.later_pairs.now.block
         → record_bytes m 3 ≡ records.now.measures.now.block → result ≡ Some m }
 {
+    let state = records.sectors.state;
     let (sectors, pairs) = counts(&records.measures.block);
-    if sectors > LIST_LENGTH_MAX || pairs > LIST_LENGTH_MAX {
+    if !is_state(state) || sectors > PRIMARY_MAX || pairs > PAIRS_MAX {
         return None;
     }
     let primary = sectors_of(&records.sectors.block, sectors);
@@ -43,14 +41,36 @@ pub fn map_read(size: &Size, slot: u8, number: u64, records: &Records) -> Option
         &records.later_pairs.block,
         pairs.saturating_sub(RECORD_PAIRS),
     );
-    numbered_map(size, primary.as_slice(), grown.as_slice(), slot, number)
+    numbered_map(
+        size,
+        primary.as_slice(),
+        grown.as_slice(),
+        slot,
+        number,
+        state,
+    )
 }
 
-fn numbered_map(size: &Size, primary: &[Psn], grown: &[Pair], slot: u8, number: u64) -> Option<Map>
-    ensures numbered { IfSome result (IsNumbered size.now slot number) }
-    ensures only { (m : DefectMap) → IsNumbered size.now slot number m → m.primary ≡ primary.now → m.grown ≡ grown.now → result ≡ Some m }
+fn is_state(state: u8) -> bool
+    ensures { IsTrue result ↔ IsState state }
 {
-    let map = Map::of_lists(*size, primary, grown, number, slot, IN_USE)?;
+    state == IN_USE
+}
+
+fn numbered_map(
+    size: &Size,
+    primary: &[Psn],
+    grown: &[Pair],
+    slot: u8,
+    number: u64,
+    state: u8,
+) -> Option<Map>
+    requires { IsState state }
+    ensures numbered { IfSome result (IsNumbered size.now slot number) }
+    ensures only { (m : DefectMap) → IsNumbered size.now slot number m → m.primary ≡ primary.now → m.grown ≡ grown.now
+        → m.state ≡ state → result ≡ Some m }
+{
+    let map = Map::of_lists(*size, primary, grown, number, slot, state)?;
     map.lists_are_valid();
     Some(map)
 }
@@ -67,8 +87,8 @@ fn counts(measures: &Block) -> (usize, usize)
     )
 }
 
-fn sectors_of(block: &Block, count: usize) -> ArrayVec<Psn, LIST_LENGTH_MAX>
-    requires { count ≤ LIST_LENGTH_MAX }
+fn sectors_of(block: &Block, count: usize) -> ArrayVec<Psn, PRIMARY_MAX>
+    requires { count ≤ PRIMARY_MAX }
     ensures { result.items ≡ sectors_in count block.now }
 {
     let mut list = ArrayVec::new();
@@ -79,9 +99,9 @@ fn sectors_of(block: &Block, count: usize) -> ArrayVec<Psn, LIST_LENGTH_MAX>
 }
 
 // Adds the pairs at the front of a block to a list.
-fn read_pairs(list: &mut ArrayVec<Pair, LIST_LENGTH_MAX>, block: &Block, count: usize)
+fn read_pairs(list: &mut ArrayVec<Pair, PAIRS_MAX>, block: &Block, count: usize)
     requires held { count ≤ RECORD_PAIRS }
-    requires room { length list.old.items + count ≤ LIST_LENGTH_MAX }
+    requires room { length list.old.items + count ≤ PAIRS_MAX }
     ensures { list.new.items ≡ list.old.items ++ pairs_in count block.now }
 {
     for i in 0..count {

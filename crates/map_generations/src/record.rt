@@ -2,11 +2,12 @@ ghost use Rattle.std.specs.Prelude.{◌≡◌, ◌+◌, ◌*◌, ◌<◌, ◌≤
 ghost use Rattle.std.specs.List.{flat_map};
 ghost use Rattle.map_generations.specs.MapRecord.{map_record as record_of_map};
 ghost use Rattle.map_generations.specs.Laws.{RecordsTellMaps};
+ghost use Rattle.map_generations.specs.Told.{MapsAreTold};
 ghost use Rattle.map_generations.specs.MapRecord.{record_bytes, record_sector as sector_of, measures, sector_bytes, pair_bytes, with_zeros};
 
 use arrayvec::ArrayVec;
 use disk_base::{BLOCK_LENGTH, Block, Payload, Psn};
-use geometry_map::{LIST_LENGTH_MAX, Map, Pair};
+use geometry_map::{Map, PAIRS_MAX, PRIMARY_MAX, Pair};
 
 /// Records of a map: the primary list, the first half of the grown list, the second half, and the measures.
 pub const MAP_RECORDS: u8 = 4;
@@ -16,6 +17,9 @@ pub const COPIES: u8 = 2;
 
 /// The version of the records.
 pub const RECORD_VERSION: u8 = 1;
+
+/// The state of a map that is in use, the only one that a map has.
+pub const IN_USE: u8 = 0;
 
 // Pairs of a record.
 pub(crate) const RECORD_PAIRS: usize = 64;
@@ -59,7 +63,7 @@ pub(crate) fn record_block(map: &Map, index: u8) -> Block
 
 // The pairs of the first record and those behind them.
 fn first_and_later(pairs: &[Pair]) -> (&[Pair], &[Pair])
-    requires { length pairs.now ≤ LIST_LENGTH_MAX }
+    requires { length pairs.now ≤ PAIRS_MAX }
     ensures first { result.0.now ≡ take RECORD_PAIRS pairs.now }
     ensures later { result.1.now ≡ drop RECORD_PAIRS pairs.now }
     ensures few_first { length result.0.now ≤ RECORD_PAIRS }
@@ -69,7 +73,7 @@ fn first_and_later(pairs: &[Pair]) -> (&[Pair], &[Pair])
 }
 
 fn sectors_block(sectors: &[Psn]) -> Block
-    requires { length sectors.now ≤ LIST_LENGTH_MAX }
+    requires { length sectors.now ≤ PRIMARY_MAX }
     ensures { result ≡ with_zeros (flat_map sector_bytes sectors.now) }
 {
     let mut bytes = ArrayVec::<u8, BLOCK_LENGTH>::new();
@@ -123,4 +127,9 @@ fn zero_filled(bytes: &[u8]) -> Block
 /// The data of its four records tell a map: the measures of its drive and both lists.
 pub fn records_tell_maps()
     ensures { RecordsTellMaps }
+{}
+
+/// A valid map that stands whole in its slot is the one that the slot tells.
+pub fn maps_are_told()
+    ensures { MapsAreTold }
 {}

@@ -9,6 +9,7 @@ ghost use Rattle.map_generations.specs.SafetyLaws.{CommitsBegin, RecoveriesBegin
 ghost use Rattle.map_generations.specs.SafetyLaws.{WritesKeepMapsSafe, TornWritesKeepMapsSafe, RecordsStand, OtherSlotsStand};
 ghost use Rattle.map_generations.specs.SafetyLaws.{WrittenMapsArePresent, CommitsStaySafe, RecoveriesStaySafe};
 ghost use Rattle.map_generations.specs.SafetyLaws.{SafetyIsByPlace, RecordsHaveOwnSectors};
+ghost use Rattle.map_generations.specs.SafetyLaws.{TakenNumbersAreMeant, WritesKeepNumbers, NumbersAreByPlace};
 
 /// Where the maps are safe, recovery takes a kept map, whichever sectors can be read.
 pub fn recovery_takes_kept_maps()
@@ -38,6 +39,16 @@ pub fn present_maps_may_be_taken()
 /// Recovery takes no number from 2^63 up, so there is room for what it adds.
 pub fn taken_numbers_are_small()
     ensures { TakenNumbersAreSmall }
+{}
+
+/// A map that may be taken has a number that is meant: it is at most what all those are.
+pub fn taken_numbers_are_meant()
+    ensures { TakenNumbersAreMeant }
+{}
+
+/// A write of a record of a map, whole or cut off, brings no greater number than the map's.
+pub fn writes_keep_numbers()
+    ensures { WritesKeepNumbers }
 {}
 
 /// A present map is safe in each pair that keeps it, whatever is kept beside it.
@@ -110,6 +121,11 @@ pub fn recoveries_stay_safe()
 /// maps are as safe, and the same map is present.
 pub fn safety_is_by_place()
     ensures { SafetyIsByPlace }
+{}
+
+/// So are the numbers.
+pub fn numbers_are_by_place()
+    ensures { NumbersAreByPlace }
 {}
 
 /// The sixteen records have sectors of their own.

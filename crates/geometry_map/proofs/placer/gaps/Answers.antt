@@ -1,6 +1,6 @@
 -- The i-th of sectors that ascend from 16 is 16 + i at least, and each adds its gap.
 use Rattle.std.proofs.Common.{◌≡◌, ◌∙◌, ◌++◌, ◌∷◌, ◌-◌, [], ◌<◌, List, ℕ, ap, sym, arith, lit<, length, length-take, take, get_or}
-use Rattle.geometry_map.specs.declared.limits.TheConstants.{LIST_LENGTH_MAX}
+use Rattle.geometry_map.specs.declared.limits.TheConstants.{PRIMARY_MAX}
 use Rattle.geometry_map.proofs.GapLemmas.{AscendsWithin-at, gaps_of-more, length-gaps_of}
 use Rattle.geometry_map.proofs.placer.gaps.Goals as goal
 
@@ -12,7 +12,7 @@ overflow_sub-defect-in-loop-i c = omega (arith, AscendsWithin-at c.loop-i.i 16 c
 
 pub push-requires : goal.push-requires
 push-requires c =
-    let room : length c.loop-i.gaps.items < LIST_LENGTH_MAX = omega (arith, ap length c.loop-i.invariant, length-gaps_of 0 (take c.loop-i.i c.args.primary.now), length-take c.loop-i.i c.args.primary.now, c.requires.few, c.loop-i-test.true) in
+    let room : length c.loop-i.gaps.items < PRIMARY_MAX = omega (arith, ap length c.loop-i.invariant, length-gaps_of 0 (take c.loop-i.i c.args.primary.now), length-take c.loop-i.i c.args.primary.now, c.requires.few, c.loop-i-test.true) in
     (lit< tt, room)
 
 pub loop-i-preserved : goal.loop-i-preserved

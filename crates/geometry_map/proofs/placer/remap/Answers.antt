@@ -2,7 +2,7 @@
 use Rattle.std.proofs.Common.{◌≡◌, ◌∙◌, ◌<◌, ◌++◌, ◌∷◌, [], List, true, ap, sym, arith, lit<, length}
 use Rattle.std.specs.Prelude.{filter}
 use Rattle.arrayvec.specs.ArrayVec.{ArrayVec}
-use Rattle.geometry_map.specs.declared.limits.TheConstants.{LIST_LENGTH_MAX}
+use Rattle.geometry_map.specs.declared.limits.TheConstants.{PAIRS_MAX}
 use Rattle.geometry_map.specs.declared.pair.Pair.{Pair}
 use Rattle.geometry_map.specs.Size.{capacity_of}
 use Rattle.geometry_map.specs.Placer.{route_of, is_moved}
@@ -15,7 +15,7 @@ pub push-requires : goal.push-requires
 push-requires c =
     let elsewhere : is_moved (route_of c.args.map.now c.loop-b.b) ≡ true = ap is_moved (sym c.route-route.ensures) ∙ sym c.is_elsewhere.ensures ∙ c.if-is_elsewhere.true in
     let below : c.loop-b.b < capacity_of c.args.map.now.size = omega (arith, c.capacity-b-end.ensures.value ∙ ap capacity_of c.size.ensures, c.loop-b-test.true) in
-    let room : length c.loop-b.remap.items < LIST_LENGTH_MAX = omega (arith, remap-room c.args.map.now c.loop-b.b c.lists_are_valid.ensures below elsewhere, ap length c.loop-b.invariant) in
+    let room : length c.loop-b.remap.items < PAIRS_MAX = omega (arith, remap-room c.args.map.now c.loop-b.b c.lists_are_valid.ensures below elsewhere, ap length c.loop-b.invariant) in
     (lit< tt, room)
 
 pub loop-b-preserved : goal.loop-b-preserved

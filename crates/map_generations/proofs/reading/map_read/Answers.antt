@@ -9,7 +9,7 @@ read_pairs-requires-2-clause-room c =
     rw (c.read_pairs.ensures, c.new-grown.ensures, long) (omega arith)
 
 pub returns-clause-only : goal.returns-clause-only
-returns-clause-only c m is zeroth first second third =
+returns-clause-only c m is state zeroth first second third =
     let sectors = primary_count m c.args.records.now.measures.now.block is.valid third in
     let pairs = grown_count m c.args.records.now.measures.now.block is.valid third in
     let primary = primary_read m c.args.records.now.sectors.now.block c.counts-sectors.result.0 is.valid zeroth (c.counts-sectors.ensures.sectors ∙ sectors) in
@@ -26,3 +26,4 @@ returns-clause-only c m is zeroth first second third =
       c.min.ensures,
       c.saturating_sub.ensures,
     ) (sym grown))
+    state

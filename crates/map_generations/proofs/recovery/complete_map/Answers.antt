@@ -19,7 +19,7 @@ read_from_them c m of_slot of_number complete =
     let are =
     are_records c.args.size.now reads m c.args.slot c.args.number _ _ _ _ complete of_slot of_number (sym c.in_ok-record_in.ensures)
     (sym c.in_ok-record_in-2.ensures) (sym c.in_ok-record_in-3.ensures) (sym c.in_ok-record_in-4.ensures) in
-    (c.map_read.ensures.only m is (sym are.of_sectors.bytes) (sym are.of_pairs.bytes) (sym are.of_later_pairs.bytes) (sym are.of_measures.bytes), are)
+    (c.map_read.ensures.only m is (sym are.of_sectors.state) (sym are.of_sectors.bytes) (sym are.of_pairs.bytes) (sym are.of_later_pairs.bytes) (sym are.of_measures.bytes), are)
 
 pub returns-then-are_of-clause-complete : goal.returns-then-are_of-clause-complete
 returns-then-are_of-clause-complete c =
