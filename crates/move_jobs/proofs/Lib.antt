@@ -1,0 +1,3 @@
+pub mod ChainEnds
+pub mod ChainsGrow
+pub mod Examples
