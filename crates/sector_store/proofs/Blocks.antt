@@ -23,8 +23,8 @@ use Rattle.map_generations.specs.SafeMaps.{IsPresent}
 use Rattle.map_generations.specs.SafetyLaws.{RecoveryTakesThePresentMap, PresentMapsAreTaken, PresentMapsAreSafeAlone, SafetyIsByPlace}
 use Rattle.sector_store.specs.Maps.{meant_on}
 use Rattle.sector_store.specs.Stored.{value_in, stored, IsThere, IsLeft}
-use Rattle.sector_store.specs.State.{placed}
-use Rattle.sector_store.specs.Laws.{RecoveryFindsWhatIsStored, QuietOpsKeepBlocks, WritesStoreOneBlock}
+use Rattle.sector_store.specs.State.{kept_with, placed}
+use Rattle.sector_store.specs.Laws.{RecoveryFindsWhatIsStored, QuietOpsKeepBlocks, QuietOpsKeepMaps, WritesStoreOneBlock}
 use Rattle.sector_store.proofs.Meant.{is_sector-own, is_sector-apart, IsMeantBy, write-apart, write-own}
 
 -- the laws of maps that these rest on
@@ -76,6 +76,18 @@ pub quiet_ops_keep_blocks : MapLaws → QuietOpsKeepBlocks
 quiet_ops_keep_blocks laws m ops more there same =
     let still : IsThere m more = stays laws m ops more there (λ p less. sym (same (sector p))) in
     (still, λ taken may q. recovery_finds_what_is_stored laws.found m taken more still may q ∙ ap (value_in q) (same (place_of m q)))
+
+pub quiet_ops_keep_maps : MapLaws → QuietOpsKeepMaps
+quiet_ops_keep_maps laws m next ready before after kept quiet = record {
+  sectors = quiet.sectors ∙ kept.sectors;
+  sound = λ p low. quiet.faults p low ∙ kept.sound p low;
+  valid = kept.valid;
+  follows = kept.follows;
+  there = λ is. stays laws m before.ops after.ops (kept.there is) (λ p low. sym (quiet.same p low));
+  alone_ready = kept.alone_ready;
+  safe = λ none. (laws.by_place (meant_on before.ops) (meant_on after.ops) (λ p low. sym (quiet.same p low))).0 (kept_with m next)
+      (kept.safe (omega (arith, none, quiet.strays_grow)));
+}
 
 -- the value that a block's own payload has for it
 own-value : (m : DefectMap) (b : Lba) (bytes : List ℕ) → value_for b (placed m b bytes) ≡ Data bytes

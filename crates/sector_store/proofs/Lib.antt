@@ -3,5 +3,12 @@ pub mod Blocks
 pub mod Strays
 pub mod Made
 pub mod Calls
+pub mod SpareSectors
+pub mod WritesInOrder
+pub mod RecordOps
+pub mod MapOps
+pub mod Committing
+pub mod Cached
+pub mod Written
 mod Examples
 mod ShapeExamples

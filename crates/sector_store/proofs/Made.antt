@@ -1,5 +1,5 @@
 -- What a factory leaves.
-use Rattle.std.proofs.Common.{◌≡◌, ℕ, zero, suc, ◌+◌, ◌<◌, ◌≤◌, Bool, List, [], ◌∷◌, ◌++◌, Option, Some, None, refl, sym, ◌∙◌, ap, arith, map}
+use Rattle.std.proofs.Common.{◌≡◌, ℕ, zero, suc, ◌+◌, ◌<◌, ◌≤◌, Bool, true, false, List, [], ◌∷◌, ◌++◌, Option, Some, None, refl, sym, ◌∙◌, ap, subst, arith, map}
 use Rattle.std.specs.Prelude.{if◌then◌else◌, All}
 use Rattle.std.specs.List.{fold, range_with_len}
 use Rattle.std.proofs.lemmas.List.{map-append}
@@ -9,7 +9,9 @@ use Rattle.disk_base.specs.declared.address.Psn.{Psn}
 use Rattle.disk_base.specs.declared.payload.Payload.{Payload}
 use Rattle.platter_model.specs.declared.op.Op.{Op}
 use Rattle.platter_model.specs.declared.op.Op.TheVariants.{Wrote}
-use Rattle.platter_model.specs.Sector.{meant_after, meant}
+use Rattle.platter_model.specs.Sector.{meant_after, meant, faulty_after}
+use Rattle.platter_model.specs.State.{State, made}
+use Rattle.geometry_map.specs.declared.size.Size.{Size}
 use Rattle.geometry_map.specs.Size.{total_of, capacity_of}
 use Rattle.geometry_map.specs.DefectMap.{DefectMap, sector, factory_map, IsValidMap}
 use Rattle.geometry_map.specs.Laws.{BlocksLieOnUserSectors}
@@ -19,7 +21,8 @@ use Rattle.map_generations.specs.SafeMaps.{IsPresent, written_to}
 use Rattle.map_generations.specs.SafetyLaws.{PresentMapsAreTaken, PresentMapsAreSafeAlone, SafetyIsByPlace, WrittenMapsArePresent}
 use Rattle.sector_store.specs.Maps.{meant_on, records_of}
 use Rattle.sector_store.specs.Factory.{block_at, zero_block, zero_blocks, first_map, factory_payloads}
-use Rattle.sector_store.specs.Laws.{FactoryMapsAreThere, FactoryPayloadsAreOnSectors}
+use Rattle.sector_store.specs.State.{KeepsMaps}
+use Rattle.sector_store.specs.Laws.{FactoryMapsAreThere, FactoryStoresKeepMaps, FactoryPayloadsAreOnSectors}
 use Rattle.sector_store.proofs.Meant.{is_sector-apart}
 use Rattle.sector_store.proofs.Blocks.{present-there}
 
@@ -101,7 +104,7 @@ all_eight : (P : Payload → Type 0) (a b c d e f g h : Payload) → P a → P b
 all_eight P a b c d e f g h pa pb pc pd pe pf pg ph =
     All-cons P a (b ∷ c ∷ d ∷ e ∷ f ∷ g ∷ h ∷ []) pa (All-cons P b (c ∷ d ∷ e ∷ f ∷ g ∷ h ∷ []) pb (All-cons P c (d ∷ e ∷ f ∷ g ∷ h ∷ []) pc (All-cons P d (e ∷ f ∷ g ∷ h ∷ []) pd (All-cons P e (f ∷ g ∷ h ∷ []) pe (All-cons P f (g ∷ h ∷ []) pf (All-cons P g (h ∷ []) pg (All-cons P h [] ph (All-nil P))))))))
 
-records_on : (P : Payload → Type 0) (m : DefectMap) → ((copy index : ℕ) → copy < 2 → index < 4 → P (map_record m copy index)) → All P (records_of m)
+pub records_on : (P : Payload → Type 0) (m : DefectMap) → ((copy index : ℕ) → copy < 2 → index < 4 → P (map_record m copy index)) → All P (records_of m)
 unfolding records_of
 records_on P m each =
     all_eight P (map_record m 0 0) (map_record m 0 1) (map_record m 0 2) (map_record m 0 3)
@@ -109,7 +112,7 @@ records_on P m each =
     (each 0 0 (omega arith) (omega arith)) (each 0 1 (omega arith) (omega arith)) (each 0 2 (omega arith) (omega arith)) (each 0 3 (omega arith) (omega arith))
     (each 1 0 (omega arith) (omega arith)) (each 1 1 (omega arith) (omega arith)) (each 1 2 (omega arith) (omega arith)) (each 1 3 (omega arith) (omega arith))
 
-records_within : (total : ℕ) (m : DefectMap) → m.slot < 2 → 16 ≤ total → All (λ payload. payload.psn.0 < total) (records_of m)
+pub records_within : (total : ℕ) (m : DefectMap) → m.slot < 2 → 16 ≤ total → All (λ payload. payload.psn.0 < total) (records_of m)
 records_within total m slot room = records_on (λ payload. payload.psn.0 < total) m (λ copy index c i. omega arith)
 
 pub factory_maps_are_there : PresentMapsAreTaken → PresentMapsAreSafeAlone → SafetyIsByPlace → WrittenMapsArePresent → BlocksLieOnUserSectors
@@ -119,6 +122,36 @@ factory_maps_are_there taken safe by_place written on_user size primary valid =
     present-there taken safe (factory_map size primary) (map Wrote (factory_payloads size primary)) valid refl
     (present by_place written (first_map size primary) (factory_map size primary) (zero_blocks (factory_map size primary)) (omega arith)
     (zeros_past on_user (factory_map size primary) valid))
+
+-- writes bring no fault
+sound_writes : (p : Psn) (before : Bool) (payloads : List Payload) → fold (faulty_after p) before (map Wrote payloads) ≡ before
+sound_writes p before [] = refl
+sound_writes p before (payload ∷ payloads) = sound_writes p before payloads
+
+pub factory_stores_keep_maps : FactoryMapsAreThere → FactoryStoresKeepMaps
+factory_stores_keep_maps are_there size primary valid =
+    let there = are_there size primary valid in
+    record {
+      sectors = refl;
+      sound = λ p low. sound_writes p false (factory_payloads size primary);
+      valid = valid;
+      follows = tt;
+      there = λ ready. there;
+      alone_ready = λ ready. refl;
+      safe = λ none. there.safe;
+    }
+
+-- so does a store whose platter was made from the map that a factory leaves
+pub fresh_keeps : FactoryStoresKeepMaps → (m : DefectMap) (platter : State) (total : ℕ) (size : Size) (items payloads : List Payload)
+    → m ≡ factory_map m.size m.primary → IsValidMap m → platter ≡ made total items → total ≡ total_of size → size ≡ m.size
+    → items ≡ payloads → payloads ≡ factory_payloads m.size m.primary → KeepsMaps m None true platter
+fresh_keeps law m platter total size items payloads is valid platter_is total_is size_is items_is payloads_is =
+    let fresh : KeepsMaps (factory_map m.size m.primary) None true (made (total_of m.size) (factory_payloads m.size m.primary)) =
+    law m.size m.primary (subst IsValidMap is valid) in
+    let made_is : platter ≡ made (total_of m.size) (factory_payloads m.size m.primary) =
+    platter_is ∙ (ap (λ (n : ℕ). made n items) (total_is ∙ ap total_of size_is) ∙ ap (λ (l : List Payload). made (total_of m.size) l) (items_is ∙ payloads_is)) in
+    subst (λ (x : DefectMap). KeepsMaps x None true platter) (sym is)
+    (subst (λ (x : State). KeepsMaps (factory_map m.size m.primary) None true x) (sym made_is) fresh)
 
 pub factory_payloads_are_on_sectors : BlocksLieOnUserSectors → FactoryPayloadsAreOnSectors
 factory_payloads_are_on_sectors on_user size primary valid =

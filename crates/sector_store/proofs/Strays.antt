@@ -22,7 +22,7 @@ strays_from-push before [] op = rw (append-nil before) (omega arith)
 strays_from-push before (o ∷ ops) op =
     rw (strays_from-push (before ++ o ∷ []) ops op, append_assoc before (o ∷ []) ops) (omega arith)
 
-strays-push : (ops : List Op) (op : Op) → strays (ops ++ op ∷ []) ≡ strays ops + (if is_stray ops op then 1 else 0)
+pub strays-push : (ops : List Op) (op : Op) → strays (ops ++ op ∷ []) ≡ strays ops + (if is_stray ops op then 1 else 0)
 strays-push ops op = strays_from-push [] ops op
 
 -- both of two tests
@@ -56,7 +56,7 @@ same-is a b is =
     (ap sector (eqb-true a.psn.0 b.psn.0 four.1)) (eqb-true a.address b.address five.1) ((bytes_eq-Decides a.block b.block).0 six.1)
 
 -- what was found is what is meant where it is no other
-no_other-is : (meant_there : Option Payload) (found : Payload) → is_other meant_there (Some found) ≡ false → meant_there ≡ Some found
+pub no_other-is : (meant_there : Option Payload) (found : Payload) → is_other meant_there (Some found) ≡ false → meant_there ≡ Some found
 no_other-is None found is = let never : ⊥ = cc in absurd never
 no_other-is (Some payload) found is = ap Some (same-is payload found (not-false (is_same payload found) is))
 

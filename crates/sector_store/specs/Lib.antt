@@ -7,3 +7,8 @@ pub mod Happening
 pub mod Laws
 pub mod Lending
 pub mod Shapes
+pub mod Writing
+pub mod Commits
+pub mod Spares
+pub mod Committing
+pub mod Caching

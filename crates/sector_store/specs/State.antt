@@ -1,5 +1,5 @@
 -- What contracts see of a store, and how its calls change that.
-use Rattle.std.specs.Prelude.{◌≡◌, ℕ, List, Option, Some, None}
+use Rattle.std.specs.Prelude.{◌≡◌, ℕ, ◌<◌, Bool, true, false, List, Option, Some, None}
 use Rattle.disk_base.specs.declared.address.Lba.{Lba}
 use Rattle.disk_base.specs.declared.address.Psn.{Psn}
 use Rattle.disk_base.specs.declared.payload.Payload.{Payload}
@@ -7,33 +7,72 @@ use Rattle.disk_base.specs.declared.stage.Stage.{Stage}
 use Rattle.disk_base.specs.Payload.{user_payload, value_for}
 use Rattle.platter_model.specs.declared.answer.WriteAnswer.{WriteAnswer}
 use Rattle.platter_model.specs.declared.answer.WriteAnswer.TheVariants.{Written, Fault, Off}
+use Rattle.platter_model.specs.Sector.{is_faulty}
+use Rattle.platter_model.specs.TrueLog.{strays}
 use Rattle.platter_model.specs.State.{State, made, tried, with_room, after_write}
 use Rattle.geometry_map.specs.declared.size.Size.{Size}
 use Rattle.geometry_map.specs.Size.{total_of}
-use Rattle.geometry_map.specs.DefectMap.{DefectMap, factory_map, place_of}
+use Rattle.geometry_map.specs.DefectMap.{DefectMap, factory_map, place_of, IsValidMap}
+use Rattle.map_generations.specs.SafeMaps.{KeptPair, SafeMaps, with_map, alone}
 use Rattle.write_cache.specs.Contents.{Contents, empty}
 use Rattle.sector_store.specs.declared.answer.TryAnswer.{TryAnswer}
 use Rattle.sector_store.specs.declared.answer.TryAnswer.TheVariants as answer
 use Rattle.sector_store.specs.declared.answer.StoreAnswer.{StoreAnswer}
 use Rattle.sector_store.specs.declared.answer.StoreAnswer.TheVariants as store_answer
 use Rattle.sector_store.specs.Factory.{factory_payloads}
+use Rattle.sector_store.specs.Maps.{meant_on}
 use Rattle.sector_store.specs.Stored.{IsThere}
+use Rattle.sector_store.specs.Commits.{IsNextOf}
 
--- the map by which blocks lie on sectors, the cache, and the platter
+-- the map by which blocks lie on sectors, the next one where its commit was cut off, whether the store's map is the one that is
+-- there, the cache, and the platter
 pub record Contained : Type 0 where
   pub map : DefectMap
+  pub next : Option DefectMap
+  pub ready : Bool
   pub cache : Contents
   pub platter : State
 
--- what holds of every store: its map is there after its operations, and its platter has the sectors of the map's drive
-pub record IsStore (s : Contained) : Type 0 where
+-- the maps that are kept: a map alone, or it and the next one
+abbrev pub kept_with : DefectMap → Option DefectMap → KeptPair
+kept_with m None = alone m
+kept_with m (Some next) = with_map (alone m) next
+
+abbrev pub kept_of : Contained → KeptPair
+kept_of s = kept_with s.map s.next
+
+-- a map that is kept beside another follows it
+abbrev pub IsFollowedBy : DefectMap → Option DefectMap → Type 0
+IsFollowedBy m None = Unit {0}
+IsFollowedBy m (Some next) = IsNextOf m next
+
+-- what holds of the maps that a store keeps and of its platter: it has the sectors of the map's drive, those of the maps have no
+-- write fault, the map is valid, the next one follows it, a ready store's map is there and alone, and the maps are safe
+pub record KeepsMaps (m : DefectMap) (next : Option DefectMap) (ready : Bool) (platter : State) : Type 0 where
+  pub sectors : platter.sectors ≡ total_of m.size
+  pub sound : (p : Psn) → p.0 < 16 → is_faulty p platter.ops ≡ false
+  pub valid : IsValidMap m
+  pub follows : IsFollowedBy m next
+  pub there : ready ≡ true → IsThere m platter.ops
+  pub alone_ready : ready ≡ true → next ≡ None
+  pub safe : strays platter.ops ≡ 0 → SafeMaps (meant_on platter.ops) (kept_with m next)
+
+-- what holds of every store
+abbrev pub IsStore : Contained → Type 0
+IsStore s = KeepsMaps s.map s.next s.ready s.platter
+
+-- a store whose map is there, and no other is kept
+pub record IsReady (s : Contained) : Type 0 where
+  pub ready : s.ready ≡ true
+  pub none : s.next ≡ None
   pub there : IsThere s.map s.platter.ops
-  pub sectors : s.platter.sectors ≡ total_of s.map.size
 
 -- a store as a factory makes it
 abbrev pub made_by_factory : Size → List Psn → Contained
 made_by_factory size primary = record {
   map = factory_map size primary;
+  next = None;
+  ready = true;
   cache = empty;
   platter = made (total_of size) (factory_payloads size primary);
 }

@@ -9,6 +9,7 @@ use Rattle.platter_model.specs.declared.op.Op.{Op}
 use Rattle.platter_model.specs.Sector.{meant}
 use Rattle.geometry_map.specs.Size.{capacity_of}
 use Rattle.geometry_map.specs.DefectMap.{DefectMap, place_of, IsValidMap}
+use Rattle.map_generations.specs.MapRecord.{IsState}
 use Rattle.map_generations.specs.SafeMaps.{IsPresent, SafeMaps, alone}
 use Rattle.sector_store.specs.Maps.{meant_on, IsMapOf, MayBeRecovered}
 
@@ -29,7 +30,7 @@ Stands allowed m ops =
 -- a map is there after operations: it is theirs, it and an older one are written whole, each to its slot, and so it is safe alone
 pub record IsThere (m : DefectMap) (ops : List Op) : Type 0 where
   pub valid : IsValidMap m
-  pub in_use : m.state ≡ 0
+  pub in_use : IsState m.state
   pub present : IsPresent (meant_on ops) m
   pub own : IsMapOf m.size ops m
   pub safe : SafeMaps (meant_on ops) (alone m)

@@ -21,6 +21,36 @@ pub enum StoreAnswer {
     Off,
 }
 
+/// What the check of a spare found.
+#[derive(Clone, Copy, Debug, PartialEq, Eq)]
+pub enum CheckAnswer {
+    /// The payload that was to be there.
+    Same,
+    /// Another payload, or nothing.
+    Other,
+    /// The power is off.
+    Off,
+}
+
+/// How a commit ended.
+#[derive(Clone, Copy, Debug, PartialEq, Eq)]
+pub enum CommitAnswer {
+    Done,
+    /// The power is off, or went off in one of its writes.
+    Off,
+}
+
+/// How a recovery ended.
+#[derive(Clone, Copy, Debug, PartialEq, Eq)]
+pub enum RecoverAnswer {
+    /// A map was taken, and it is written with this number.
+    Ready(u64),
+    /// There is no map to be taken; the slot is one that isn't complete.
+    Corrupt(u8),
+    /// The power went off in one of the writes.
+    Off,
+}
+
 /// Why there is no store.
 #[derive(Debug, Drop, Error)]
 pub enum StoreFault {

@@ -29,8 +29,8 @@ pub(crate) fn payloads(alloc: Global, map: &Map, placer: &Placer) -> Result<Vec<
     Ok(list)
 }
 
-// The records of a map, copy 0 first.
-fn records(map: &Map) -> [Payload; 8]
+/// The records of a map, copy 0 first.
+pub(crate) fn records(map: &Map) -> [Payload; 8]
     ensures { result ≡ records_of map.now }
 {
     [

@@ -4,15 +4,23 @@
 #![tactic(auto)]
 
 mod answer;
+mod caching;
+mod commits;
 mod factory;
 mod law;
+mod spares;
 mod store;
 #[cfg(test)]
 mod tests;
+mod writing;
 
-pub use answer::{StoreAnswer, StoreFault, TryAnswer};
+pub use answer::{CheckAnswer, CommitAnswer, RecoverAnswer, StoreAnswer, StoreFault, TryAnswer};
+pub use caching::Search;
 pub use law::{
-    factory_maps_are_there, factory_payloads_are_on_sectors, quiet_operations_keep_blocks,
-    recovery_finds_what_is_stored, tries_find_what_is_stored, writes_store_one_block,
+    commit_ops_stay_safe, factory_maps_are_there, factory_payloads_are_on_sectors,
+    factory_stores_keep_maps, present_maps_are_there, quiet_operations_keep_blocks,
+    quiet_operations_keep_maps, recovery_finds_what_is_stored, recovery_ops_stay_safe,
+    spares_are_user_sectors, tries_find_what_is_stored, writes_store_one_block,
+    writes_to_spares_keep_blocks,
 };
 pub use store::Store;

@@ -13,8 +13,8 @@ ghost use Rattle.sector_store.specs.Lending.{LendsCache};
 ghost use Rattle.std.specs.Borrow.{sem};
 
 use crate::law::{
-    factory_maps_are_there, factory_payloads_are_on_sectors, quiet_operations_keep_blocks,
-    tries_find_what_is_stored, writes_store_one_block,
+    factory_payloads_are_on_sectors, factory_stores_keep_maps, quiet_operations_keep_blocks,
+    quiet_operations_keep_maps, tries_find_what_is_stored, writes_store_one_block,
 };
 use crate::{StoreAnswer, StoreFault, TryAnswer, factory};
 use channel_path::{Path, SAMPLES};
@@ -29,36 +29,36 @@ use write_cache::Cache;
 /// the cache holds, and the platter.
 #[derive(Drop)]
 pub struct Store {
-    map: Map,
+    pub(crate) map: Map,
     // Made of the map.
-    placer: Placer,
-    cache: Cache,
-    platter: Platter,
-    path: Path,
+    pub(crate) placer: Placer,
+    // The map of a commit that was cut off: its records may be on the sectors of the maps.
+    pub(crate) next: Option<Map>,
+    // Whether the map is there, so that a recovery takes no other.
+    pub(crate) ready: bool,
+    pub(crate) cache: Cache,
+    pub(crate) platter: Platter,
+    pub(crate) path: Path,
     // For use within a try.
-    samples: Box<[i8; SAMPLES]>,
+    pub(crate) samples: Box<[i8; SAMPLES]>,
 }
 
 impl Model for Store {
-    ghost use Rattle.std.specs.Prelude.{◌≡◌};
-    ghost use Rattle.geometry_map.specs.Size.{total_of};
     ghost use Rattle.geometry_map.specs.Placer.{IsPlacerOf};
-    ghost use Rattle.sector_store.specs.State.{Contained};
-    ghost use Rattle.sector_store.specs.Stored.{IsThere};
+    ghost use Rattle.sector_store.specs.State.{Contained, KeepsMaps};
 
     ghost Value = { Contained };
 
-    ghost view = { λ s. record { map = s.map; cache = s.cache; platter = s.platter } };
+    ghost view = { λ s. record { map = s.map; next = s.next; ready = s.ready; cache = s.cache; platter = s.platter } };
 
     ghost invariant = { λ s. record {
       placer : IsPlacerOf s.placer s.map;
-      there : IsThere s.map s.platter.ops;
-      sectors : s.platter.sectors ≡ total_of s.map.size;
+      maps : KeepsMaps s.map s.next s.ready s.platter;
     } };
 }
 
 impl Store {
-    /// Holds of every store: its map is there after its operations.
+    /// Holds of every store: it keeps its maps, and while it is ready, its map is there after its operations.
     pub fn stands(&self)
         ensures { IsStore self.now }
     {
@@ -96,11 +96,12 @@ impl Store {
         // Where the try is no stray, it finds the value that is stored.
         ensures found { (v : BlockValue) → result ≡ TryAnswer.Found v → strays self.new.platter.ops ≡ strays self.old.platter.ops
             → v ≡ stored self.old.map self.old.platter.ops b }
-        ensures keeps { KeepsBlocks self.old.map self.old.platter.ops self.new.platter.ops }
+        ensures keeps { self.old.ready ≡ true → KeepsBlocks self.old.map self.old.platter.ops self.new.platter.ops }
     {
         self.stands();
         blocks_are_at_user_sectors();
         quiet_operations_keep_blocks();
+        quiet_operations_keep_maps();
         tries_find_what_is_stored();
         let p = self.placer.place(b);
         let seen = self
@@ -116,20 +117,29 @@ impl Store {
         ensures answer { result ≡ answer_by (write_answer self.old.platter (place_of self.old.map b)) }
         ensures after { self.new ≡ after_write_of self.old b v.now }
 
-        // By each map that recovery may take from here, the block has its data once the write is done.
-        ensures done { result ≡ StoreAnswer.Done → StoresAt self.old.map self.new.platter.ops b (BlockData v.now) }
-        ensures fault { result ≡ StoreAnswer.Fault
+        // By each map that recovery may take from here, the block has its data once the write is done; so while the store is ready.
+        ensures done { self.old.ready ≡ true → result ≡ StoreAnswer.Done
+            → StoresAt self.old.map self.new.platter.ops b (BlockData v.now) }
+        ensures fault { self.old.ready ≡ true → result ≡ StoreAnswer.Fault
             → StoresAt self.old.map self.new.platter.ops b (stored self.old.map self.old.platter.ops b) }
-        ensures cut { result ≡ StoreAnswer.Off
+        ensures cut { self.old.ready ≡ true → result ≡ StoreAnswer.Off
             → MayStoreAt self.old.map self.new.platter.ops b (stored self.old.map self.old.platter.ops b) (BlockData v.now) }
-        ensures others { KeepsOthers self.old.map self.old.platter.ops self.new.platter.ops b }
+        ensures others { self.old.ready ≡ true → KeepsOthers self.old.map self.old.platter.ops self.new.platter.ops b }
     {
         self.stands();
         blocks_are_at_user_sectors();
+        quiet_operations_keep_maps();
         writes_store_one_block();
         let p = self.placer.place(b);
         let payload = Payload::user(p, b, v);
         store_answer(self.platter.write(p, &payload))
+    }
+
+    /// Whether the store's map is there, so that a recovery takes no other.
+    pub fn is_ready(&self) -> bool
+        ensures { result ≡ self.now.ready }
+    {
+        self.ready
     }
 
     pub fn map(&self) -> &Map
@@ -171,10 +181,11 @@ impl Store {
         requires room { 1 ≤ self.old.platter.room }
         requires may { MayHappen self.old.platter w.now }
         ensures after { self.new ≡ record self.old { platter = after_world self.old.platter w.now } }
-        ensures keeps { KeepsBlocks self.old.map self.old.platter.ops self.new.platter.ops }
+        ensures keeps { self.old.ready ≡ true → KeepsBlocks self.old.map self.old.platter.ops self.new.platter.ops }
     {
         self.stands();
         quiet_operations_keep_blocks();
+        quiet_operations_keep_maps();
         happen(&mut self.platter, w);
     }
 
@@ -184,7 +195,7 @@ impl Store {
         ensures { IfOk result (λ store. store ≡ made_by_factory map.size map.primary) }
     {
         map.lists_are_valid();
-        factory_maps_are_there();
+        factory_stores_keep_maps();
         factory_payloads_are_on_sectors();
         let placer = Placer::of(&map);
         let payloads = factory::payloads(alloc, &map, &placer)?;
@@ -192,6 +203,8 @@ impl Store {
         Ok(Store {
             map,
             placer,
+            next: None,
+            ready: true,
             cache: Cache::new(alloc)?,
             platter,
             path: Path::new(alloc)?,
@@ -210,7 +223,7 @@ fn answer_of(b: Lba, seen: Option<Option<Payload>>) -> TryAnswer
     }
 }
 
-fn store_answer(answer: WriteAnswer) -> StoreAnswer
+pub(crate) fn store_answer(answer: WriteAnswer) -> StoreAnswer
     ensures { result ≡ answer_by answer }
 {
     match answer {

@@ -8,6 +8,7 @@ use platter_model::{Damage, Effect, Lasting, Left, Platter, Tear, World, WriteAn
 use read_recovery::stages;
 use std::alloc::Global;
 use std::test::Fail;
+use write_cache::{Look, Put};
 
 // Forty-eight sectors, two of them kept back, and one of these for a bad sector.
 fn fresh(alloc: Global) -> Result<Store, Fail> {
@@ -55,6 +56,42 @@ fn harm(store: &mut Store, b: u64, first: u16, count: u16, lasting: Lasting) -> 
     Ok(())
 }
 
+// The plain read of a search for a block's value, wherever that may come from.
+fn sought(store: &mut Store, b: u64, rcd: bool) -> Result<TryAnswer, Fail> {
+    if b >= store.map().size().capacity() || store.platter().is_off() {
+        return Err(Fail::from("no block of the drive, or no power"));
+    }
+    store.reserve(2)?;
+    Ok(store.seek(Search {
+        b: Lba(b),
+        medium: false,
+        stage: Stage {
+            number: 0,
+            reread: 0,
+            offset: 0,
+            how: How::Light,
+        },
+        rcd,
+        keeps: true,
+    }))
+}
+
+fn written_through(store: &mut Store, b: u64, v: &Block) -> Result<StoreAnswer, Fail> {
+    if b >= store.map().size().capacity() {
+        return Err(Fail::from("no block of the drive"));
+    }
+    store.reserve(2)?;
+    Ok(store.write_through(Lba(b), v))
+}
+
+fn hardened(store: &mut Store, b: u64) -> Result<StoreAnswer, Fail> {
+    if b >= store.map().size().capacity() || !store.cached().is_dirty(Lba(b)) {
+        return Err(Fail::from("no dirty block of the drive"));
+    }
+    store.reserve(2)?;
+    Ok(store.write_dirty(Lba(b)))
+}
+
 // The first stage of one retry that finds these data in a block.
 fn first_stage(store: &mut Store, b: u64, v: &Block) -> Result<Option<u8>, Fail> {
     for stage in stages(1).as_slice() {
@@ -76,6 +113,37 @@ fn a_write_is_read_back(rt: HostRuntime) -> Result<(), Fail> {
     let _ = store.cache().put(Lba(4), &data);
     assert!(rt; store.cached().is_dirty(Lba(4)));
     assert_eq!(rt; store.into_ops().as_slice().len(), 51);
+    Ok(())
+}
+
+// The factory leaves 46 operations, and a try adds two.
+#[test]
+fn a_block_on_cache_and_sector(rt: HostRuntime) -> Result<(), Fail> {
+    let mut store = fresh(rt.alloc())?;
+    let zeros = TryAnswer::Found(Value::Data([0; 512]));
+    assert!(rt; sought(&mut store, 4, false)? == zeros);
+    assert_eq!(rt; store.platter().ops().len(), 48);
+    assert!(rt; sought(&mut store, 4, false)? == zeros);
+    assert_eq!(rt; store.platter().ops().len(), 48);
+    assert!(rt; sought(&mut store, 4, true)? == zeros);
+    assert_eq!(rt; store.platter().ops().len(), 50);
+
+    let data = [0x5A; 512];
+    assert_eq!(rt; store.put(Lba(4), &data), Put::Kept);
+    assert!(rt; sought(&mut store, 4, true)? == TryAnswer::Found(Value::Data(data)));
+    assert_eq!(rt; hardened(&mut store, 4)?, StoreAnswer::Done);
+    assert!(rt; store.look(Lba(4), false) == Look::Clean(data));
+    assert!(rt; store.look(Lba(4), true) == Look::Absent);
+
+    assert_eq!(rt;
+        written_through(&mut store, 4, &[1; 512])?,
+        StoreAnswer::Done
+    );
+    assert!(rt; store.look(Lba(4), false) == Look::Absent);
+    assert_eq!(rt; first_stage(&mut store, 4, &[1; 512])?, Some(0));
+    assert_eq!(rt; store.put(Lba(5), &data), Put::Kept);
+    store.leave_out(Lba(5));
+    assert!(rt; store.look(Lba(5), false) == Look::Absent);
     Ok(())
 }
 
@@ -120,6 +188,13 @@ fn a_fault_and_a_cut(rt: HostRuntime) -> Result<(), Fail> {
     store.reserve(1)?;
     store.world(&World::Fault(Psn(19)));
     assert!(rt; written(&mut store, 3, &[1; 512])? == StoreAnswer::Fault);
+    assert_eq!(rt; store.put(Lba(3), &[2; 512]), Put::Kept);
+    assert_eq!(rt; hardened(&mut store, 3)?, StoreAnswer::Fault);
+    assert_eq!(rt;
+        written_through(&mut store, 3, &[1; 512])?,
+        StoreAnswer::Fault
+    );
+    assert!(rt; store.look(Lba(3), true) == Look::Dirty([2; 512]));
     store.reserve(1)?;
     store.world(&World::Cut);
     assert!(rt; written(&mut store, 2, &[1; 512])? == StoreAnswer::Off);
