@@ -31,6 +31,7 @@ use Rattle.drive_scene.specs.Able.{held_by_other, work_refused, is_able, nothing
 use Rattle.drive_scene.specs.Progress.{SomebodyIsAble}
 use Rattle.drive_core.proofs.AtBlock.{at_block}
 use Rattle.drive_scene.proofs.Walking.{member-number, able-is}
+use Rattle.drive_scene.proofs.Apart.{unheld_sync, unheld_write}
 
 -- a block that a plan holds is the one that it needs
 held_by_read : (blocks : Blocks) (window : List Op) (r : reading.Reading) (b : ℕ) → r.at < r.end → held_by_plan window (Reading r) ≡ Some b
@@ -47,7 +48,9 @@ held_is_needed : (blocks : Blocks) (v : View) (plan : Plan) (step : Step) (b : �
     → needed_by_plan blocks plan ≡ Some b
 held_is_needed blocks v plan step b at held =
     at_block v (λ plan step. held_by_plan v.window plan ≡ Some b → needed_by_plan blocks plan ≡ Some b)
-    (λ r p trying. held_by_read blocks v.window r b trying.left) (λ w p left none. absurd (cc)) (λ y p left none. absurd (cc)) plan step at held
+    (λ r p trying. held_by_read blocks v.window r b trying.left)
+    (λ w p at_start held. absurd (let none : None ≡ Some b = sym (unheld_write v.window w at_start.0 at_start.2) ∙ held in cc))
+    (λ y p at_start held. absurd (let none : None ≡ Some b = sym (unheld_sync v.window y at_start.0) ∙ held in cc)) plan step at held
 
 -- a command that holds a block was started, and needs it
 record Holds (s : Scene) (c b : ℕ) : Type 0 where

@@ -21,7 +21,7 @@ use Rattle.history_replay.specs.declared.known.Known.{Known}
 use Rattle.history_replay.specs.Arrival.{with_commands}
 use Rattle.history_replay.proofs.Absent.{absent_left}
 use Rattle.drive_core.specs.declared.accepted.Accepted.{Accepted}
-use Rattle.drive_core.specs.declared.arriving.Arriving.{Arriving}
+use Rattle.drive_scene.specs.declared.event.Arriving.{Arriving}
 use Rattle.drive_scene.specs.declared.event.Arrival.TheVariants.{Function}
 use Rattle.drive_scene.specs.declared.event.Event.{Event}
 use Rattle.drive_scene.specs.declared.event.Event.TheVariants as event
@@ -31,14 +31,15 @@ use Rattle.drive_scene.specs.Scene.{Scene, capacity, scene_after, beat}
 use Rattle.drive_scene.specs.Evidence.{IsEndShown}
 use Rattle.drive_scene.specs.Holds.{held_by_plan, held_block}
 use Rattle.drive_core.specs.Accepting.{accepted_of}
-use Rattle.drive_core.specs.Arriving.{entry_of}
+use Rattle.drive_scene.specs.Turning.{entry_of}
 use Rattle.drive_scene.specs.View.{View, view}
 use Rattle.drive_core.specs.Commands.{IsStaged, IsUnderWay}
 use Rattle.drive_scene.specs.Ending.{ended_by}
+use Rattle.drive_scene.specs.Laws.{StillTurnsAreGood}
 use Rattle.drive_core.specs.Fits.{Fits, IsCached, KnowsHistory}
 use Rattle.drive_core.specs.Moves.{Moves}
 use Rattle.drive_core.specs.Served.{is_served, is_served_cdb}
-use Rattle.drive_core.specs.Serving.{entries_at_most}
+use Rattle.drive_core.specs.Making.{entries_at_most}
 use Rattle.drive_scene.proofs.Tables.{put_at-own, put_at-other}
 use Rattle.drive_scene.proofs.Keyed.{find-push_own, find-push_other}
 use Rattle.drive_scene.proofs.Elsewhere.{IsAlike, held-alike}
@@ -62,7 +63,8 @@ not_accepted : (v : View) (o : Option Accepted) → IsStaged v o → v.member �
 not_accepted v None staged none = refl
 not_accepted v (Some a) staged none = let there = staged.is_in in absurd (cc)
 
-module _ (s : Scene) (d e : Server) (x : Arriving) (c : ℕ) (fits : Fits s d) (c_is : c ≡ s.hist.arrived + 1) (store_is : e.store ≡ d.store) (known_is : e.known ≡ d.known) where
+module _ (s : Scene) (d e : Server) (x : Arriving) (c : ℕ) (fits : Fits s d) (c_is : c ≡ s.hist.arrived + 1) (store_is : e.store ≡ d.store) (known_is : e.known ≡ d.known)
+    (still : StillTurnsAreGood) where
   absent : member_of s.hist.set c ≡ None
   absent = not_in s.hist.set s.hist.arrived c (omega arith) fits.tasks.came
 
@@ -136,7 +138,7 @@ module _ (s : Scene) (d e : Server) (x : Arriving) (c : ℕ) (fits : Fits s d) (
       let moves : M (entry_of c x ∷ []) = record {
         ops = [];
         added = none_added s d e fits store_is;
-        good = good_arrival s d e fits store_is x.initiator (entry_of c x ∷ []) (numbered_and_answered [] (ap (λ (b : Bool). is_answered b c []) room)) refl (tt, tt) (λ b. refl) refl refl
+        good = good_arrival s d e fits store_is still x.initiator (entry_of c x ∷ []) (numbered_and_answered [] (ap (λ (b : Bool). is_answered b c []) room)) refl (tt, tt) (λ b. refl) refl refl
             windows refl;
         fits = record {
           size = fits.size;
@@ -189,7 +191,7 @@ module _ (s : Scene) (d e : Server) (x : Arriving) (c : ℕ) (fits : Fits s d) (
       let moves : M (entry_of c x ∷ Ended c task_set_full ∷ []) (Some (ended_by x.initiator x.tag 0x28)) = record {
         ops = [];
         added = none_added s d e fits store_is;
-        good = good_arrival s d e fits store_is x.initiator (entry_of c x ∷ Ended c task_set_full ∷ [])
+        good = good_arrival s d e fits store_is still x.initiator (entry_of c x ∷ Ended c task_set_full ∷ [])
             (numbered_and_answered (Ended c task_set_full ∷ [])
             (ap (λ (b : Bool). is_answered b c (Ended c task_set_full ∷ [])) full ∙ and_both (eqb c c) _ (eq-eqb c c refl) refl)) refl
             (tt, (subst (λ o. IsEndShown s (beat (Arrive x.initiator) (entry_of c x ∷ Ended c task_set_full ∷ []) []) c o task_set_full) (sym owes) tt, tt)) (λ b. refl) refl refl windows refl;

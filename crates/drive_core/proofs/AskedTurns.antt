@@ -31,6 +31,7 @@ use Rattle.drive_core.specs.Accepting.{accepted_of}
 use Rattle.drive_scene.specs.View.{view}
 use Rattle.drive_core.specs.Commands.{IsStaged}
 use Rattle.drive_scene.specs.GoodTurn.{IsStood}
+use Rattle.drive_scene.specs.Laws.{StillTurnsAreGood}
 use Rattle.drive_core.specs.Fits.{Fits, IsCached}
 use Rattle.drive_core.specs.Moves.{Moves}
 use Rattle.drive_scene.proofs.Keyed.{find-kept}
@@ -83,7 +84,7 @@ retry-asked settings i Clear few = few
 retry-asked settings i Reset few = omega arith
 
 module _ (s : Scene) (d e : Server) (i : ℕ) (what : Function) (gone : List ℕ) (fits : Fits s d) (by_age : IsByAge d.set)
-    (gone_are : gone ≡ numbers (filter (is_named_by i what) d.set)) (asked : IsAsked d e i what) where
+    (gone_are : gone ≡ numbers (filter (is_named_by i what) d.set)) (asked : IsAsked d e i what) (still : StillTurnsAreGood) where
   abbrev pub entries : List Entry
   entries = Asked i what ∷ map Aborted gone
 
@@ -203,7 +204,7 @@ module _ (s : Scene) (d e : Server) (i : ℕ) (what : Function) (gone : List ℕ
   made = record {
     ops = [];
     added = none_added s d e fits asked.store;
-    good = good_arrival s d e fits asked.store i entries
+    good = good_arrival s d e fits asked.store still i entries
         (and_both (eqb i i) (are_aborted (numbers (filter (is_named (named_by i what)) s.hist.set)) (map Aborted gone)) (eq-eqb i i refl) ends_named)
         (blocks_allow (capacity s) s.hist.blocks gone) (tt, shown_left s (beat (Arrive i) entries []) (capacity s) i h gone) (λ b. on_no_block b gone) (on_none (lba 0) gone)
         (in_order gone) windows blocks_are;

@@ -17,7 +17,7 @@ use Rattle.drive_core.specs.Commands.{IsAtBlock, IsTrying}
 
 -- it reads, writes or syncs: what holds of these three holds of it
 pub at_block : (v : View) (P : Plan → Step → Type 0) → ((r : reading.Reading) (p : Progress) → IsTrying v r p → P (Reading r) (Trying p))
-    → ((w : writing.Writing) (p : Progress) → (v.window ≡ []) × (w.at < w.end) → P (Writing w) (Trying p))
+    → ((w : writing.Writing) (p : Progress) → (v.window ≡ []) × (w.at < w.end) × (w.owes_harden ≡ false) → P (Writing w) (Trying p))
     → ((y : syncing.Syncing) (p : Progress) → (v.window ≡ []) × (y.at < y.end) → P (Syncing y) (Trying p))
     → (plan : Plan) (step : Step) → IsAtBlock v plan step → P plan step
 at_block v P reads writes syncs (Reading r) (Trying p) at = reads r p at
@@ -32,7 +32,7 @@ first_read v r settings left window same clean = record {
   left = left;
   next = ap is_some (plain_stage settings.retry 0 (omega arith));
   retry = sym (ap (λ (x : Settings). x.retry) same);
-  failed = λ k x below here. absurd (omega arith);
+  failed = window;
   unfound = ap last_found window;
   tried = ap length window;
   clean = clean;

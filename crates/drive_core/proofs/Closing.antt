@@ -76,9 +76,9 @@ told_report r false recovered duty own = refl
 
 -- the store after a turn of work that armed no cut
 pub has_ops : (s t : Scene) (old new : Contained) (ops : List Op) → HasOps s old → t.map ≡ s.map → t.ops ≡ s.ops ++ ops → new.map ≡ old.map
-    → new.platter.ops ≡ old.platter.ops ++ ops → new.platter.armed ≡ old.platter.armed → is_off (s.ops ++ ops) ≡ is_off s.ops
+    → new.platter.ops ≡ old.platter.ops ++ ops → new.platter.armed ≡ old.platter.armed → new.ready ≡ old.ready → is_off (s.ops ++ ops) ≡ is_off s.ops
     → ((p : Psn) → is_faulty p (s.ops ++ ops) ≡ is_faulty p s.ops) → IsPresentMap new.map new.platter.ops → HasOps t new
-has_ops s t old new ops has map_is ops_is map ops_added armed off faults present =
+has_ops s t old new ops has map_is ops_is map ops_added armed ready off faults present =
     let same_map : new.map ≡ t.map = map ∙ (has.map ∙ sym map_is) in
     let same_ops : new.platter.ops ≡ t.ops = ops_added ∙ (ap (λ (xs : List Op). xs ++ ops) has.ops ∙ sym ops_is) in
     record {
@@ -87,6 +87,7 @@ has_ops s t old new ops has map_is ops_is map ops_added armed off faults present
       present = subst (λ (xs : List Op). IsPresentMap t.map xs) same_ops (subst (λ (n : DefectMap). IsPresentMap n new.platter.ops) same_map present);
       powered = ap is_off ops_is ∙ (off ∙ has.powered);
       unarmed = armed ∙ has.unarmed;
+      ready = ready ∙ has.ready;
       sound = λ p. ap (is_faulty p) ops_is ∙ (faults p ∙ has.sound p);
     }
 
@@ -141,8 +142,10 @@ moves_end s c ops half entries h plan d e reply told is good fits stops before a
     subst (λ (o : Option told_end.Ended). M entries o) (sym told_is) (subst (λ (es : List Entry). M es (ended_of_member (member_of s.hist.set c) reply)) (sym stops.entries_are) moves)
 
 -- the map of a store that keeps it is there after the turn
-pub present_after : (s : Scene) (old new : Contained) → HasOps s old → new.map ≡ old.map → IsStore new → KeepsBlocks new.map new.platter.ops new.platter.ops
-    → (new.map.number < 2 ^ 63 → MayBeRecovered new.map.size new.platter.ops new.map) → IsPresentMap new.map new.platter.ops
-present_after s old new has same store finds may =
+pub present_after : (s : Scene) (old new : Contained) → HasOps s old → new.map ≡ old.map → new.ready ≡ old.ready → IsStore new
+    → (new.ready ≡ true → KeepsBlocks new.map new.platter.ops new.platter.ops)
+    → (new.ready ≡ true → new.map.number < 2 ^ 63 → MayBeRecovered new.map.size new.platter.ops new.map) → IsPresentMap new.map new.platter.ops
+present_after s old new has same ready_same store finds may =
+    let ready : new.ready ≡ true = ready_same ∙ has.ready in
     let number : new.map.number < 2 ^ 63 = subst (λ (n : DefectMap). n.number < 2 ^ 63) (sym (same ∙ has.map)) has.present.number in
-    record { there = store.there; number = number; may_be = may number; finds = finds }
+    record { there = store.there ready; number = number; may_be = may ready number; finds = finds ready }

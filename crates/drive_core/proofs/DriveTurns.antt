@@ -22,8 +22,9 @@ use Rattle.drive_scene.specs.declared.answer.Pick.{Pick}
 use Rattle.drive_scene.specs.declared.answer.TurnAnswer.{TurnAnswer}
 use Rattle.drive_scene.specs.declared.answer.TurnAnswer.TheVariants as answer
 use Rattle.drive_core.specs.declared.accepted.Accepted.{Accepted}
+use Rattle.drive_scene.specs.declared.made.Made.{Made}
 use Rattle.drive_core.specs.declared.server.Server.{Server}
-use Rattle.drive_core.specs.declared.turning.Served.{Served}
+use Rattle.drive_core.specs.declared.turning.MadeTurn.{MadeTurn}
 use Rattle.drive_scene.specs.Scene.{Scene, Beat, capacity, beat}
 use Rattle.drive_scene.specs.Evidence.{Shows}
 use Rattle.drive_scene.specs.Run.{Run, run_of, scene_of}
@@ -35,7 +36,7 @@ use Rattle.drive_core.specs.Kept.{Kept}
 use Rattle.drive_core.specs.Moves.{Moves, IsSameServer}
 use Rattle.drive_scene.specs.Able.{refusal, refusal_on, work_refused, is_spent, needs_power, picked, nothing_waiting}
 use Rattle.drive_core.specs.Served.{IsServed}
-use Rattle.drive_core.specs.Serving.{MayServe, IsServedTurn}
+use Rattle.drive_core.specs.Making.{MayCome, IsTurnOf}
 use Rattle.drive_scene.specs.Turning.{AddsTurn, coming_after, is_scanned}
 use Rattle.drive_core.proofs.Pushes.{kept-push}
 use Rattle.geometry_map.specs.declared.size.Size.{Size}
@@ -50,6 +51,7 @@ fits-same s old new same fits = record {
     present = fits.store.present;
     powered = fits.store.powered;
     unarmed = same.store.armed ∙ fits.store.unarmed;
+    ready = same.store.ready ∙ fits.store.ready;
     sound = fits.store.sound;
   };
   cached = subst (λ (cache : Contents). IsCached s cache) (sym same.store.cache) fits.cached;
@@ -61,23 +63,23 @@ fits-same s old new same fits = record {
   stands = fits.stands;
 }
 
-pub run-same : (old new : Server) (turns given : List Turn) (coming : ℕ) → given ≡ turns → IsSameServer old new
-    → run_of new.store given coming ≡ run_of old.store turns coming
-run-same old new turns given coming is same = λ i. record {
-  size = (same.store.map i).size;
-  primary = (same.store.map i).primary;
+pub run-same : (made : Made) (old new : Server) (turns given : List Turn) (coming : ℕ) → given ≡ turns → IsSameServer old new
+    → run_of made new.store given coming ≡ run_of made old.store turns coming
+run-same made old new turns given coming is same = λ i. record {
+  made = made;
   turns = is i;
   ops = same.store.ops i;
   coming = coming;
 }
 
-pub kept-same : (old new : Server) (turns given : List Turn) (coming : ℕ) → given ≡ turns → IsSameServer old new → Kept (run_of old.store turns coming) old
-    → Kept (run_of new.store given coming) new
-kept-same old new turns given coming is same kept =
-    subst (λ (r : Run). Kept r new) (sym (run-same old new turns given coming is same)) (record {
+pub kept-same : (made : Made) (old new : Server) (turns given : List Turn) (coming : ℕ) → given ≡ turns → IsSameServer old new → Kept (run_of made old.store turns coming) old
+    → Kept (run_of made new.store given coming) new
+kept-same made old new turns given coming is same kept =
+    subst (λ (r : Run). Kept r new) (sym (run-same made old new turns given coming is same)) (record {
+      size = ap (λ (m : DefectMap). m.size) same.store.map ∙ kept.size;
       follow = kept.follow;
       good = kept.good;
-      fits = fits-same (scene_of (run_of old.store turns coming)) old new same kept.fits;
+      fits = fits-same (scene_of (run_of made old.store turns coming)) old new same kept.fits;
       numbered = omega (arith, kept.numbered, same.arrived);
     })
 
@@ -102,15 +104,15 @@ no_reason true u a b o is = absurd (cc)
 no_reason false true a b o is = absurd (cc)
 no_reason false false a b o is = (refl, is)
 
-pub may_serve : (d : Server) (turns : List Turn) (coming : ℕ) (e : Event) → Kept (run_of d.store turns coming) d → IsServed d.store.map.size e
-    → refusal (run_of d.store turns coming) e ≡ None → MayServe (scene_of (run_of d.store turns coming)) d e
-may_serve d turns coming e kept served free =
-    let s : Scene = scene_of (run_of d.store turns coming) in
-    let none = no_reason (needs_power e && is_off d.store.platter.ops) (is_spent (run_of d.store turns coming)) answer.Off answer.Spent
-    (refusal_on (scene_of (run_of d.store turns coming)) coming e) free in
+pub may_come : (made : Made) (d : Server) (turns : List Turn) (coming : ℕ) (e : Event) → Kept (run_of made d.store turns coming) d → IsServed made.size e
+    → refusal (run_of made d.store turns coming) e ≡ None → MayCome (scene_of (run_of made d.store turns coming)) d e
+may_come made d turns coming e kept served free =
+    let s : Scene = scene_of (run_of made d.store turns coming) in
+    let none = no_reason (needs_power e && is_off d.store.platter.ops) (is_spent (run_of made d.store turns coming)) answer.Off answer.Spent
+    (refusal_on (scene_of (run_of made d.store turns coming)) coming e) free in
     record {
       fits = kept.fits;
-      served = subst (λ (z : Size). IsServed z e) (ap (λ (m : DefectMap). m.size) kept.fits.store.map ∙ kept.fits.size) served;
+      served = subst (λ (z : Size). IsServed z e) (sym kept.size ∙ (ap (λ (m : DefectMap). m.size) kept.fits.store.map ∙ kept.fits.size)) served;
       free = free_at_none s coming e none.1;
       numbered = omega (arith, kept.numbered, few (length turns) none.0);
     }
@@ -119,37 +121,37 @@ may_serve d turns coming e kept served free =
     few n is = let less = leb-false 4294967294 n is in omega (arith)
 
 -- a drive after room was reserved for the turn of an event that isn't refused
-pub record IsReserved (now : Run) (e : Event) (d : Server) (turns : List Turn) (coming : ℕ) : Type 0 where
-  pub same : run_of d.store turns coming ≡ now
-  pub kept : Kept (run_of d.store turns coming) d
+pub record IsReserved (made : Made) (now : Run) (e : Event) (d : Server) (turns : List Turn) (coming : ℕ) : Type 0 where
+  pub same : run_of made d.store turns coming ≡ now
+  pub kept : Kept (run_of made d.store turns coming) d
   pub free : refusal now e ≡ None
-  pub may : MayServe (scene_of (run_of d.store turns coming)) d e
+  pub may : MayCome (scene_of (run_of made d.store turns coming)) d e
 
-pub reserved : (old new : Server) (turns given : List Turn) (coming : ℕ) (now : Run) (e : Event) (refused : Option TurnAnswer)
-    → Kept (run_of old.store turns coming) old → run_of old.store turns coming ≡ now → given ≡ turns → IsSameServer old new → IsServed now.size e
-    → refused ≡ refusal now e → refused ≡ None → IsReserved now e new given coming
-reserved old new turns given coming now e refused kept was is same served answered none =
-    let kept_on : Kept (run_of new.store given coming) new = kept-same old new turns given coming is same kept in
-    let same_run : run_of new.store given coming ≡ now = run-same old new turns given coming is same ∙ was in
+pub reserved : (made : Made) (old new : Server) (turns given : List Turn) (coming : ℕ) (now : Run) (e : Event) (refused : Option TurnAnswer)
+    → Kept (run_of made old.store turns coming) old → run_of made old.store turns coming ≡ now → given ≡ turns → IsSameServer old new → IsServed now.made.size e
+    → refused ≡ refusal now e → refused ≡ None → IsReserved made now e new given coming
+reserved made old new turns given coming now e refused kept was is same served answered none =
+    let kept_on : Kept (run_of made new.store given coming) new = kept-same made old new turns given coming is same kept in
+    let same_run : run_of made new.store given coming ≡ now = run-same made old new turns given coming is same ∙ was in
     let free : refusal now e ≡ None = sym answered ∙ none in
     record {
       same = same_run;
       kept = kept_on;
       free = free;
-      may = may_serve new given coming e kept_on (subst (λ (r : Run). IsServed r.size e) (sym same_run) served)
+      may = may_come made new given coming e kept_on (subst (λ (r : Run). IsServed r.made.size e) (sym same_run) served)
           (subst (λ (r : Run). refusal r e ≡ None) (sym same_run) free);
     }
 
 -- the turn of what was served
-abbrev pub turn_of : Served → ℕ → ℕ → List Entry → Turn
-turn_of made from to entries = record { label = made.label; ops_from = from; ops_to = to; entries = entries }
+abbrev pub turn_of : MadeTurn → ℕ → ℕ → List Entry → Turn
+turn_of done from to entries = record { label = done.label; ops_from = from; ops_to = to; entries = entries }
 
-pub served_turn : (now : Run) (e : Event) (d new : Server) (turns : List Turn) (coming : ℕ) (made : Served) (given entries : List Entry) → IsReserved now e d turns coming
-    → ((s : Scene) → MayServe s d e → IsServedTurn s e d new given made) → entries ≡ given
-    → IsServedTurn (scene_of (run_of d.store turns coming)) e d new entries made
-served_turn now e d new turns coming made given entries reserved serves is =
-    let s : Scene = scene_of (run_of d.store turns coming) in
-    subst (λ (es : List Entry). IsServedTurn (scene_of (run_of d.store turns coming)) e d new es made) (sym is) (serves s reserved.may)
+pub made_turn : (made : Made) (now : Run) (e : Event) (d new : Server) (turns : List Turn) (coming : ℕ) (done : MadeTurn) (given entries : List Entry) → IsReserved made now e d turns coming
+    → ((s : Scene) → MayCome s d e → IsTurnOf s e d new given done) → entries ≡ given
+    → IsTurnOf (scene_of (run_of made d.store turns coming)) e d new entries done
+made_turn made now e d new turns coming done given entries reserved makes is =
+    let s : Scene = scene_of (run_of made d.store turns coming) in
+    subst (λ (es : List Entry). IsTurnOf (scene_of (run_of made d.store turns coming)) e d new es done) (sym is) (makes s reserved.may)
 
 -- no entry of a good turn is one of the scan
 unseen : (s : Scene) (t : Beat) (h : State) (e : Entry) → Shows s t h e → is_scanned e ≡ false
@@ -181,35 +183,33 @@ unscanned s t n l h (e ∷ rest) shown =
     ∙ unscanned s t n l (entry_after n l h e) rest shown.1
 
 -- the turn that is added
-pub adds-turn : (old new : Server) (turns given : List Turn) (coming number : ℕ) (e : Event) (t : Turn) (made : Served)
-    → IsServedTurn (scene_of (run_of old.store turns coming)) e old new t.entries made → Kept (run_of old.store turns coming) old → t.label ≡ made.label
+pub adds-turn : (made : Made) (old new : Server) (turns given : List Turn) (coming number : ℕ) (e : Event) (t : Turn) (done : MadeTurn)
+    → IsTurnOf (scene_of (run_of made old.store turns coming)) e old new t.entries done → Kept (run_of made old.store turns coming) old → t.label ≡ done.label
     → given ≡ turns ++ t ∷ [] → number ≡ length given
-    → AddsTurn (run_of old.store turns coming) e (answer.Done number made.ended false) (run_of new.store given (coming_after coming e))
-adds-turn old new turns given coming number e t made served kept label is counted =
-    let s : Scene = scene_of (run_of old.store turns coming) in
-    let map_is : new.store.map ≡ old.store.map = served.moves.fits.store.map ∙ sym kept.fits.store.map in
+    → AddsTurn (run_of made old.store turns coming) e (answer.Done number done.ended false) (run_of made new.store given (coming_after coming e))
+adds-turn made old new turns given coming number e t done is_turn kept label is counted =
+    let s : Scene = scene_of (run_of made old.store turns coming) in
     let scans : list_any is_scanned t.entries ≡ false =
-    unscanned s (beat made.label t.entries served.moves.ops) (capacity s) made.label (begun s.hist made.label) t.entries served.moves.good.shown in
+    unscanned s (beat done.label t.entries is_turn.moves.ops) (capacity s) done.label (begun s.hist done.label) t.entries is_turn.moves.good.shown in
     record {
       turn = t;
       turns = is;
-      label = served.label ∙ ap Some (sym label);
-      arrival = served.arrival;
-      ops = served.moves.ops;
-      added = served.moves.added;
-      size = ap (λ (m : DefectMap). m.size) map_is;
-      primary = ap (λ (m : DefectMap). m.primary) map_is;
+      label = is_turn.label ∙ ap Some (sym label);
+      arrival = is_turn.arrival;
+      ops = is_turn.moves.ops;
+      added = is_turn.moves.added;
+      made = refl;
       coming = refl;
-      answered = λ i. answer.Done (counted i) (served.moves.ended i) (sym scans i);
+      answered = λ i. answer.Done (counted i) (is_turn.moves.ended i) (sym scans i);
     }
 
-pub kept-after : (old new : Server) (turns given : List Turn) (coming next : ℕ) (e : Event) (t : Turn) (made : Served)
-    → IsServedTurn (scene_of (run_of old.store turns coming)) e old new t.entries made → Kept (run_of old.store turns coming) old → t.label ≡ made.label
-    → t.ops_from ≡ length old.store.platter.ops → t.ops_to ≡ length new.store.platter.ops → given ≡ turns ++ t ∷ [] → Kept (run_of new.store given next) new
-kept-after old new turns given coming next e t made served kept label from to is =
-    subst (λ (ts : List Turn). Kept (run_of new.store ts next) new) (sym is)
-    (kept-push old new turns coming next t made.ended kept
-    (subst (λ (l : Label). Moves l (scene_of (run_of old.store turns coming)) old new t.entries made.ended) (sym label) served.moves) from to)
+pub kept-after : (made : Made) (old new : Server) (turns given : List Turn) (coming next : ℕ) (e : Event) (t : Turn) (done : MadeTurn)
+    → IsTurnOf (scene_of (run_of made old.store turns coming)) e old new t.entries done → Kept (run_of made old.store turns coming) old → t.label ≡ done.label
+    → t.ops_from ≡ length old.store.platter.ops → t.ops_to ≡ length new.store.platter.ops → given ≡ turns ++ t ∷ [] → Kept (run_of made new.store given next) new
+kept-after made old new turns given coming next e t done is_turn kept label from to is =
+    subst (λ (ts : List Turn). Kept (run_of made new.store ts next) new) (sym is)
+    (kept-push made old new turns coming next t done.ended kept
+    (subst (λ (l : Label). Moves l (scene_of (run_of made old.store turns coming)) old new t.entries done.ended) (sym label) is_turn.moves) from to)
 
 pub given_turn : (e : Event) (refused : Option TurnAnswer) (old : Run) (given : TurnAnswer) (new : Run) → refused ≡ None → AddsTurn old e given new
     → MatchOption refused (AddsTurn old e given new) (λ answered. (given ≡ answered) × (new ≡ old))

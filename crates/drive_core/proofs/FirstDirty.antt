@@ -5,7 +5,7 @@ use Rattle.std.specs.List.{list_all, range_with_len}
 use Rattle.std.specs.Map.{keys_of, lookup}
 use Rattle.std.specs.Option.{option_map, is_some}
 use Rattle.std.proofs.lemmas.Option.{slice_get-get_or}
-use Rattle.std.proofs.lemmas.Bool.{eq-eqb, ltb-true, leb-true, lt-ltb, le-leb, cases_eq}
+use Rattle.std.proofs.lemmas.Bool.{eq-eqb, eqb-true, ltb-true, leb-true, lt-ltb, le-leb, cases_eq}
 use Rattle.std.proofs.lemmas.List.Elements.{All-contains}
 use Rattle.disk_base.specs.declared.address.Lba.{Lba}
 use Rattle.disk_base.specs.declared.block.Value.{Value}
@@ -14,8 +14,11 @@ use Rattle.write_cache.specs.Contents.{Contents, is_at, newest, is_within, dirty
 use Rattle.block_machine.specs.Blocks.{Blocks, is_dirty, none_dirty, newest as newest_value}
 use Rattle.block_machine.proofs.Booleans.{and_both, both}
 use Rattle.drive_scene.specs.Holds.{first_dirty}
-use Rattle.drive_core.proofs.Settling.{same_address}
 use Rattle.drive_scene.proofs.HardenTurns.{dirty-newest}
+
+-- a test of addresses
+same_address : (b q : Lba) → is_at b q ≡ true → q ≡ b
+same_address b q same = let lba : ℕ → Lba = λ n. record { 0 = n } in sym (ap lba (eqb-true b.0 q.0 same))
 
 module _ (p : ℕ → Bool) where
   -- none of a range passes

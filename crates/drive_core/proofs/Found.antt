@@ -37,7 +37,6 @@ use Rattle.command_engine.specs.declared.step.Recovery.{Recovery}
 use Rattle.command_engine.specs.Ending.{ending_of}
 use Rattle.command_engine.specs.Standing.{IsCourse}
 use Rattle.command_engine.specs.Answers.{after}
-use Rattle.command_engine.specs.Laws.{EndsByThePlan}
 use Rattle.block_machine.specs.declared.entry.Entry.{Entry}
 use Rattle.block_machine.specs.declared.turn.Label.TheVariants.{Work}
 use Rattle.block_machine.specs.Blocks.{is_dirty, same_value, allowed}
@@ -45,7 +44,7 @@ use Rattle.drive_core.specs.declared.accepted.Accepted.{Accepted}
 use Rattle.drive_core.specs.declared.server.Server.{Server}
 use Rattle.drive_scene.specs.declared.answer.Ended as told_end
 use Rattle.drive_core.specs.declared.taking.Sought.{Sought}
-use Rattle.drive_scene.specs.Scene.{Scene, capacity, last_found, windows_with}
+use Rattle.drive_scene.specs.Scene.{Scene, capacity, last_found}
 use Rattle.drive_scene.specs.Holds.{holder_besides}
 use Rattle.drive_scene.specs.Evidence.{lba, FoundByStages, FoundNowhere, may_use_cache}
 use Rattle.drive_scene.specs.View.{view}
@@ -53,16 +52,19 @@ use Rattle.drive_core.specs.Commands.{IsTrying, IsWorking}
 use Rattle.drive_scene.specs.Present.{IsPresentMap}
 use Rattle.drive_core.specs.Fits.{IsClean, IsCached, Fits}
 use Rattle.drive_core.specs.Moves.{Moves}
-use Rattle.drive_core.specs.Taking.{answer_of, IsLooked, IsStageTried, IsSought, value_got, got_entries}
-use Rattle.drive_scene.proofs.Tables.{put_at-own, within_map}
+use Rattle.sector_store.specs.Caching.{IsLooked, IsUngiven, IsStageTried}
+use Rattle.drive_core.proofs.Sought.{found_by, kept_or_same}
+use Rattle.drive_core.specs.Taking.{answer_of, search_for, IsTaken, value_got, got_entries}
+use Rattle.drive_scene.proofs.Tables.{within_map}
 use Rattle.drive_scene.proofs.Gets.{may_get-newest, may_get-allowed, may_get-lost, dirty_by_newest, undirty_by_newest}
-use Rattle.drive_scene.proofs.Tries.{tried_ops, last_found-try, found_value-here, failed-more, failed-all, next_stage-at, none_left, no_strays-before}
+use Rattle.drive_scene.proofs.Tries.{tried_ops, last_found-try, failed-all, next_stage-at, none_left, no_strays-before, none-failed, found-next}
 use Rattle.drive_core.proofs.Parts.{cached_got, cached_keep, cached_look, is_off-try, faults-try}
 use Rattle.drive_core.proofs.Closing.{Goes, Stops, has_ops}
 use Rattle.drive_scene.proofs.GetTurns.{no_ops, try_ops, begun-owes}
 use Rattle.drive_core.proofs.ReadTurns.{course}
-use Rattle.drive_core.proofs.Taken.{IsReadTurn, got_data, got_lost, missed}
+use Rattle.drive_core.proofs.Taken.{ReadLaws, IsReadTurn, got_data, got_lost, missed}
 use Rattle.geometry_map.specs.declared.size.Size.{Size}
+use Rattle.drive_core.proofs.Windows.{numbered}
 
 -- two blocks are never at one sector
 abbrev pub OwnPlaces : DefectMap → Type 0
@@ -85,7 +87,7 @@ module _ (s : Scene) (c : ℕ) (m : Member) (a : Accepted) (settings : Settings)
     pub present : IsPresentMap e.store.map e.store.platter.ops
     pub once : IsCache d.store.cache
     pub keeps : KeepsOthers
-    pub law : EndsByThePlan
+    pub laws : ReadLaws
     pub course_is : IsCourse (after (course s c m settings gives r p rec stage) answer)
     pub reply_is : reply ≡ ending_of (after (course s c m settings gives r p rec stage) answer)
     pub goes : reply ≡ None → Goes d e c (record a { work = Some (after (course s c m settings gives r p rec stage) answer) }) (got_entries c (lba r.at) (value_got answer false)) entries told
@@ -111,6 +113,9 @@ module _ (s : Scene) (c : ℕ) (m : Member) (a : Accepted) (settings : Settings)
   looked d e bytes entries reply told made unforced first found after_is =
       let b : Lba = lba r.at in
       let trying : IsTrying (view s c) r p = made.working.at_block in
+      let none_failed : p.failed ≡ 0 = sym (numbered p.retry p.failed stage (next_stage-at p stage made.next_is).1) ∙ first in
+      let untried : s.windows c ++ [] ≡ [] =
+      append-nil (s.windows c) ∙ none-failed (s.windows c) (place_of s.map (lba r.at)) p.retry p.failed none_failed trying.failed in
       let below : r.at < capacity s = below_capacity made.working made.left in
       let unfound : last_found (s.windows c ++ []) ≡ None = ap last_found (append-nil (s.windows c)) ∙ trying.unfound in
       let present : IsPresentMap s.map (s.ops ++ []) = subst (λ (xs : List Op). IsPresentMap s.map xs) (sym (append-nil s.ops)) made.fits.store.present in
@@ -125,10 +130,10 @@ module _ (s : Scene) (c : ℕ) (m : Member) (a : Accepted) (settings : Settings)
         present = present;
         has = λ t map_is ops_is. has_ops s t d.store e.store [] made.fits.store map_is ops_is (ap (λ (x : Contained). x.map) after_is)
             (ap (λ (x : Contained). x.platter.ops) after_is ∙ sym (append-nil d.store.platter.ops)) (ap (λ (x : Contained). x.platter.armed) after_is)
-            (ap is_off (append-nil s.ops)) (λ p. ap (is_faulty p) (append-nil s.ops)) made.present;
+            (ap (λ (x : Contained). x.ready) after_is) (ap is_off (append-nil s.ops)) (λ p. ap (is_faulty p) (append-nil s.ops)) made.present;
         cached = λ t got ops_so since_is. subst (λ (x : Contained). IsCached t x.cache) (sym after_is)
             (cached_look t d.store.cache (lba r.at) made.keeps made.once (cached_got s t d.store.cache got made.fits.cached));
-        law = made.law;
+        laws = made.laws;
       } in
       ⊎_elim
       (λ (dirty : newest (lba r.at) d.store.cache ≡ Some bytes).
@@ -138,7 +143,7 @@ module _ (s : Scene) (c : ℕ) (m : Member) (a : Accepted) (settings : Settings)
       (unforced_clean unforced (is_dirty (s.hist.blocks r.at)))
       (λ none. may_get-newest (s.hist.blocks r.at) bytes is)
       (λ none undirty. absurd (true≢false (sym is_so ∙ undirty)))
-      (λ es undirty. absurd (true≢false (sym is_so ∙ undirty)))
+      ((λ dirtied. untried), (λ undirty. absurd (true≢false (sym is_so ∙ undirty))))
       (inr (unfound, first)) made.course_is made.reply_is made.goes made.stops)
       (λ clean.
       let is : IsClean s (lba r.at) bytes = made.fits.cached.clean (lba r.at) bytes clean.0 in
@@ -153,20 +158,20 @@ module _ (s : Scene) (c : ℕ) (m : Member) (a : Accepted) (settings : Settings)
       (subst (λ (v : Value). list_any (same_value v) (allowed (s.hist.blocks r.at)) ≡ true) (is.stored before)
       (made.fits.stands before s.map made.fits.store.present.may_be (lba r.at) (within_map s (lba r.at) made.fits.size below))))
       (λ none undirty. sym (is.stored (no_strays-before s.ops [] none)))
-      (λ es undirty. inr (ap (may_use_cache (s.settings c)) owing ∙ uses, is.known))
+      ((λ dirtied. untried), (λ undirty. inr (untried, ap (may_use_cache (s.settings c)) owing ∙ uses, is.known)))
       (inr (unfound, first)) made.course_is made.reply_is made.goes made.stops)
       found
 
   -- a stage tries the block: what its turn begins with and leaves
   pub turn_of : (d e : Server) (answer : Answer) (entries : List Entry) (reply : Option Reply) (told : Option told_end.Ended) (found : Option Payload)
-      → IsMade d e answer entries reply told → newest (lba r.at) d.store.cache ≡ None → e.store.map ≡ d.store.map
+      → IsMade d e answer entries reply told → newest (lba r.at) d.store.cache ≡ None → e.store.map ≡ d.store.map → e.store.ready ≡ d.store.ready
       → e.store.platter ≡ tried d.store.platter (place_of d.store.map (lba r.at)) stage found
       → KeepsBlocks d.store.map d.store.platter.ops e.store.platter.ops
       → (e.store.cache ≡ d.store.cache) ⊎ ((bytes : List ℕ) × (payload : Payload) × (found ≡ Some payload) × (value_for (lba r.at) payload ≡ Data bytes)
       × (strays e.store.platter.ops ≡ strays d.store.platter.ops → Data bytes ≡ stored d.store.map d.store.platter.ops (lba r.at))
       × (e.store.cache ≡ with_clean (lba r.at) bytes d.store.cache))
       → IsReadTurn s d e c m (course s c m settings gives r p rec stage) (lba r.at) (try_of (length d.store.platter.ops) (place_of s.map (lba r.at)) stage found)
-  turn_of d e answer entries reply told found made undirty map_is platter_is keeps cache =
+  turn_of d e answer entries reply told found made undirty map_is ready_is platter_is keeps cache =
       let b : Lba = lba r.at in
       let before : ℕ = length d.store.platter.ops in
       let ops : List Op = try_of (length d.store.platter.ops) (place_of s.map (lba r.at)) stage found in
@@ -190,10 +195,10 @@ module _ (s : Scene) (c : ℕ) (m : Member) (a : Accepted) (settings : Settings)
         working = made.working;
         free = made.free;
         below = below;
-        quiet = try_ops s (lba r.at) (length d.store.platter.ops) stage found (λ q within same. ap (λ (x : Lba). x.0) (made.own q (lba r.at) (within_map s q made.fits.size within) (within_map s (lba r.at) made.fits.size below) same)) kept;
+        quiet = try_ops s (lba r.at) (length d.store.platter.ops) stage found (ap length made.fits.store.ops) (λ q within same. ap (λ (x : Lba). x.0) (made.own q (lba r.at) (within_map s q made.fits.size within) (within_map s (lba r.at) made.fits.size below) same)) kept;
         added = added;
         present = present;
-        has = λ t map_so ops_so. has_ops s t d.store e.store ops made.fits.store map_so ops_so map_is added (ap (λ (x : Platter). x.armed) platter_is)
+        has = λ t map_so ops_so. has_ops s t d.store e.store ops made.fits.store map_so ops_so map_is added (ap (λ (x : Platter). x.armed) platter_is) ready_is
             (is_off-try s.ops (length d.store.platter.ops) (place_of s.map (lba r.at)) stage found)
             (faults-try s.ops (length d.store.platter.ops) (place_of s.map (lba r.at)) stage found) made.present;
         cached = λ t got ops_so since_is. ⊎_elim
@@ -218,12 +223,8 @@ module _ (s : Scene) (c : ℕ) (m : Member) (a : Accepted) (settings : Settings)
             subst (λ (x : Contents). IsCached t x) (sym new.5)
             (cached_keep t d.store.cache (lba r.at) new.0 made.keeps made.once (cached_got s t d.store.cache got made.fits.cached) clean))
             cache;
-        law = made.law;
+        laws = made.laws;
       }
-
-  -- the command's window with a try
-  window-try : (es : List Entry) (ops : List Op) → windows_with (Work c) s.windows ops c ≡ s.windows c ++ ops
-  window-try es ops = put_at-own c (s.windows c ++ ops) s.windows
 
   -- what a try leaves of the cache
   abbrev Cached : (d e : Server) (found : Option Payload) → Type 0
@@ -255,23 +256,16 @@ module _ (s : Scene) (c : ℕ) (m : Member) (a : Accepted) (settings : Settings)
       let clean : is_dirty (s.hist.blocks r.at) ≡ false = not_dirty d made.fits undirty in
       let stored_so : strays (s.ops ++ ops) ≡ 0 → Data bytes ≡ stored s.map s.ops (lba r.at) = λ none.
       stored_is (same_strays d e ops made.fits turn.added none) ∙ (λ i. stored (made.fits.store.map i) (made.fits.store.ops i) (lba r.at)) in
-      let staged : FoundByStages (s.windows c ++ ops) at p.retry (lba r.at) (Data bytes) = (
-        p.failed,
-        stage,
-        (next_stage-at p stage made.next_is).1,
-        found_value-here (s.windows c) before at stage payload (lba r.at) (Data bytes) value,
-        failed-more (s.windows c) ops at p.retry p.failed trying.failed,
-      ) in
-      let shown : FoundByStages (windows_with (Work c) s.windows ops c) at (s.settings c).retry (lba r.at) (Data bytes) =
-      subst (λ (n : ℕ). FoundByStages (windows_with (Work c) s.windows ops c) at n (lba r.at) (Data bytes)) trying.retry
-      (subst (λ (w : List Op). FoundByStages w at p.retry (lba r.at) (Data bytes)) (sym (window-try [] ops)) staged) in
+      let shown : FoundByStages (s.windows c ++ ops) at (s.settings c).retry (lba r.at) (Data bytes) =
+      subst (λ (n : ℕ). FoundByStages (s.windows c ++ ops) at n (lba r.at) (Data bytes)) trying.retry
+      (found-next (s.windows c) before at p.retry p.failed stage payload (lba r.at) (Data bytes) (next_stage-at p stage made.next_is).1 trying.failed value) in
       got_data s c m settings gives r p rec stage d e a bytes ops entries reply told turn made.next_is made.left
       (clean_there r.through (is_dirty (s.hist.blocks r.at)) clean)
       (λ none. may_get-allowed (s.hist.blocks r.at) (Data bytes) clean
       (subst (λ (v : Value). list_any (same_value v) (allowed (s.hist.blocks r.at)) ≡ true) (sym (stored_so none))
       (made.fits.stands (no_strays-before s.ops ops none) s.map made.fits.store.present.may_be (lba r.at) (within_map s (lba r.at) made.fits.size turn.below))))
       (λ none undirtied. stored_so none)
-      (λ es undirtied. inl shown)
+      ((λ dirtied. absurd (true≢false (sym dirtied ∙ clean))), (λ undirtied. inl shown))
       (inl (last_found-try (s.windows c) before at stage (Some payload))) made.course_is made.reply_is made.goes made.stops
 
   stage_lost : (d e : Server) (payload : Payload) (entries : List Entry) (reply : Option Reply) (told : Option told_end.Ended)
@@ -283,12 +277,13 @@ module _ (s : Scene) (c : ℕ) (m : Member) (a : Accepted) (settings : Settings)
       let at : Psn = place_of s.map (lba r.at) in
       let ops : List Op = try_of (length d.store.platter.ops) (place_of s.map (lba r.at)) stage (Some payload) in
       let clean : is_dirty (s.hist.blocks r.at) ≡ false = not_dirty d made.fits undirty in
-      let shown : FoundNowhere (windows_with (Work c) s.windows ops c) at (s.settings c).retry (lba r.at) =
-      subst (λ (w : List Op). FoundNowhere w at (s.settings c).retry (lba r.at)) (sym (window-try [] ops))
-      (inr (stage, found_value-here (s.windows c) before at stage payload (lba r.at) Lost value)) in
+      let trying : IsTrying (view s c) r p = made.working.at_block in
+      let shown : FoundNowhere (s.windows c ++ ops) at (s.settings c).retry (lba r.at) =
+      inr (subst (λ (n : ℕ). FoundByStages (s.windows c ++ ops) at n (lba r.at) Lost) trying.retry
+      (found-next (s.windows c) before at p.retry p.failed stage payload (lba r.at) Lost (next_stage-at p stage made.next_is).1 trying.failed value)) in
       got_lost s c m settings gives r p rec stage d e (Got Lost) ops entries reply told turn made.left
       (clean_there r.through (is_dirty (s.hist.blocks r.at)) clean)
-      (λ none. may_get-lost (s.hist.blocks r.at) clean) (λ es undirtied. shown) made.course_is refl made.reply_is made.stops
+      (λ none. may_get-lost (s.hist.blocks r.at) clean) ((λ dirtied. absurd (true≢false (sym dirtied ∙ clean))), (λ undirtied. shown)) made.course_is refl made.reply_is made.stops
 
   stage_nothing : (d e : Server) (entries : List Entry) (reply : Option Reply) (told : Option told_end.Ended)
       → IsMade d e Missed entries reply told → newest (lba r.at) d.store.cache ≡ None
@@ -305,13 +300,12 @@ module _ (s : Scene) (c : ℕ) (m : Member) (a : Accepted) (settings : Settings)
       (λ (last : is_none (next_stage (answered p false)) ≡ true).
       let all : FoundNowhere (s.windows c ++ ops) at p.retry (lba r.at) =
       failed-all (s.windows c) before at p.retry p.failed stage (lba r.at) place.1 (none_left p place.0 last) trying.failed in
-      let shown : FoundNowhere (windows_with (Work c) s.windows ops c) at (s.settings c).retry (lba r.at) =
-      subst (λ (n : ℕ). FoundNowhere (windows_with (Work c) s.windows ops c) at n (lba r.at)) trying.retry
-      (subst (λ (w : List Op). FoundNowhere w at p.retry (lba r.at)) (sym (window-try [] ops)) all) in
+      let shown : FoundNowhere (s.windows c ++ ops) at (s.settings c).retry (lba r.at) =
+      subst (λ (n : ℕ). FoundNowhere (s.windows c ++ ops) at n (lba r.at)) trying.retry all in
       let lost : (after (course s c m settings gives r p rec stage) Missed).plan ≡ Unread r.at = ap (λ (b : Bool). cond b (Unread r.at) (Reading r)) last in
       got_lost s c m settings gives r p rec stage d e Missed ops entries reply told turn made.left
       (clean_there r.through (is_dirty (s.hist.blocks r.at)) clean)
-      (λ none. may_get-lost (s.hist.blocks r.at) clean) (λ es undirtied. shown) made.course_is lost made.reply_is made.stops)
+      (λ none. may_get-lost (s.hist.blocks r.at) clean) ((λ dirtied. absurd (true≢false (sym dirtied ∙ clean))), (λ undirtied. shown)) made.course_is lost made.reply_is made.stops)
       (λ (one_left : is_none (next_stage (answered p false)) ≡ false).
       missed s c m settings gives r p rec stage d e a before entries reply told turn made.next_is made.left clean one_left made.reply_is made.goes)
       (cases_Bool (is_none (next_stage (answered p false))))
@@ -321,10 +315,11 @@ module _ (s : Scene) (c : ℕ) (m : Member) (a : Accepted) (settings : Settings)
     pub answered : answer ≡ answer_of (try_answer (lba r.at) found)
     pub undirty : newest (lba r.at) d.store.cache ≡ None
     pub map : e.store.map ≡ d.store.map
+    pub ready : e.store.ready ≡ d.store.ready
     pub platter : e.store.platter ≡ tried d.store.platter (place_of d.store.map (lba r.at)) stage found
     pub cache : (e.store.cache ≡ d.store.cache) ⊎ ((bytes : List ℕ) × (answer ≡ Got (Data bytes)) × (e.store.cache ≡ with_clean (lba r.at) bytes d.store.cache))
     pub stored_is : (v : Value) → answer ≡ Got v → strays e.store.platter.ops ≡ strays d.store.platter.ops → v ≡ stored d.store.map d.store.platter.ops (lba r.at)
-    pub keeps : KeepsBlocks d.store.map d.store.platter.ops e.store.platter.ops
+    pub keeps : d.store.ready ≡ true → KeepsBlocks d.store.map d.store.platter.ops e.store.platter.ops
 
   by_value : (d e : Server) (payload : Payload) (v : Value) (entries : List Entry) (reply : Option Reply) (told : Option told_end.Ended)
       → IsMade d e (Got v) entries reply told → TriedWith d e (Got v) (Some payload) → value_for (lba r.at) payload ≡ v → Moves (Work c) s d e entries told
@@ -340,11 +335,11 @@ module _ (s : Scene) (c : ℕ) (m : Member) (a : Accepted) (settings : Settings)
         subst (λ (ys : List ℕ). e.store.cache ≡ with_clean (lba r.at) ys d.store.cache) one new.2,
       )) is.cache in
       stage_data d e bytes payload entries reply told made is.undirty value (is.stored_is (Data bytes) refl)
-      (turn_of d e (Got (Data bytes)) entries reply told (Some payload) made is.undirty is.map is.platter is.keeps cached)
+      (turn_of d e (Got (Data bytes)) entries reply told (Some payload) made is.undirty is.map is.ready is.platter (is.keeps made.fits.store.ready) cached)
   by_value d e payload Lost entries reply told made is value =
       let cached : Cached d e (Some payload) = ⊎_elim (λ same. inl same) (λ new. absurd (let both : Got Lost ≡ Got (Data new.0) = new.1 in cc)) is.cache in
       stage_lost d e payload entries reply told made is.undirty value
-      (turn_of d e (Got Lost) entries reply told (Some payload) made is.undirty is.map is.platter is.keeps cached)
+      (turn_of d e (Got Lost) entries reply told (Some payload) made is.undirty is.map is.ready is.platter (is.keeps made.fits.store.ready) cached)
 
   by_found : (d e : Server) (answer : Answer) (found : Option Payload) (entries : List Entry) (reply : Option Reply) (told : Option told_end.Ended)
       → IsMade d e answer entries reply told → TriedWith d e answer found → Moves (Work c) s d e entries told
@@ -352,7 +347,7 @@ module _ (s : Scene) (c : ℕ) (m : Member) (a : Accepted) (settings : Settings)
       let made_so : IsMade d e Missed entries reply told = subst (λ (x : Answer). IsMade d e x entries reply told) is.answered made in
       let cached : Cached d e None = ⊎_elim (λ same. inl same) (λ new. absurd (let both : Missed ≡ Got (Data new.0) = sym is.answered ∙ new.1 in cc)) is.cache in
       stage_nothing d e entries reply told made_so is.undirty
-      (turn_of d e Missed entries reply told None made_so is.undirty is.map is.platter is.keeps cached)
+      (turn_of d e Missed entries reply told None made_so is.undirty is.map is.ready is.platter (is.keeps made_so.fits.store.ready) cached)
   by_found d e answer (Some payload) entries reply told made is =
       by_value d e payload (value_for (lba r.at) payload) entries reply told
       (subst (λ (x : Answer). IsMade d e x entries reply told) is.answered made)
@@ -360,19 +355,21 @@ module _ (s : Scene) (c : ℕ) (m : Member) (a : Accepted) (settings : Settings)
 
   -- whatever is found
   pub whatever : (d e : Server) (answer : Answer) (entries : List Entry) (reply : Option Reply) (told : Option told_end.Ended)
-      → IsMade d e answer entries reply told → IsSought d.store sought answer e.store → Moves (Work c) s d e entries told
+      → IsMade d e answer entries reply told → IsTaken d.store sought answer e.store → Moves (Work c) s d e entries told
   whatever d e answer entries reply told made is =
       ⊎_elim
-      (λ (found : IsLooked d.store sought answer e.store).
-      looked d e found.bytes entries reply told (subst (λ (x : Answer). IsMade d e x entries reply told) found.answered made) found.not_medium found.first found.found found.after)
-      (λ (found : IsStageTried d.store sought answer e.store).
-      by_found d e answer found.found entries reply told made (record {
-        answered = found.answered;
-        undirty = found.undirty;
-        map = found.map;
-        platter = found.platter;
-        cache = found.cache;
-        stored_is = found.stored;
-        keeps = found.keeps;
+      (λ (found : IsLooked d.store (search_for sought) is.seen e.store).
+      looked d e found.bytes entries reply told (subst (λ (x : Answer). IsMade d e x entries reply told) (is.answered ∙ ap answer_of found.answered) made)
+      found.not_medium found.first found.found found.after)
+      (λ (found : IsUngiven d.store.cache (search_for sought) × IsStageTried d.store (lba r.at) stage gives is.seen e.store).
+      by_found d e answer found.1.found entries reply told made (record {
+        answered = is.answered ∙ ap answer_of found.1.answered;
+        undirty = found.1.undirty;
+        map = ap (λ (x : Contained). x.map) found.1.after;
+        ready = ap (λ (x : Contained). x.ready) found.1.after;
+        platter = ap (λ (x : Contained). x.platter) found.1.after;
+        cache = kept_or_same gives (lba r.at) is.seen answer d.store.cache e.store.cache is.answered found.1.cache;
+        stored_is = λ v got. found.1.stored v (found_by is.seen v (sym is.answered ∙ got));
+        keeps = found.1.keeps_blocks;
       }))
-      is
+      is.sought

@@ -1,20 +1,17 @@
 -- A drive from the factory: all its blocks are zeros, and its parts fit what a history begins with.
-use Rattle.std.proofs.Common.{◌≡◌, ◌<◌, List, [], Some, None, refl, sym, ap, subst, arith, map}
+use Rattle.std.proofs.Common.{◌≡◌, ◌<◌, true, List, [], Some, None, refl, sym, ap, subst, arith}
 use Rattle.std.specs.Prelude.{◌^◌}
 use Rattle.std.proofs.lemmas.List.Elements.{All-nil}
-use Rattle.disk_base.specs.declared.address.Psn.{Psn}
-use Rattle.platter_model.specs.TrueLog.{powered, is_unpowered}
-use Rattle.geometry_map.specs.declared.size.Size.{Size}
+use Rattle.platter_model.specs.TrueLog.{is_unpowered}
 use Rattle.geometry_map.specs.Size.{capacity_of}
-use Rattle.geometry_map.specs.Laws.{BlocksHaveOwnSectors}
 use Rattle.geometry_map.specs.DefectMap.{factory_map}
 use Rattle.sector_store.specs.Maps.{MayBeRecovered}
-use Rattle.sector_store.specs.Factory.{factory_payloads}
 use Rattle.sector_store.specs.Stored.{KeepsBlocks}
 use Rattle.sector_store.specs.State.{Contained, IsStore, made_by_factory}
 use Rattle.sense_data.specs.Attentions.{Waiting}
 use Rattle.history_replay.specs.Warning.{KnownWait}
 use Rattle.history_replay.proofs.KnownWaiting.{known_at_start}
+use Rattle.drive_scene.specs.declared.made.Made.{Made}
 use Rattle.drive_core.specs.declared.accepted.Accepted.{Accepted}
 use Rattle.drive_core.specs.declared.server.Server.{Server}
 use Rattle.drive_scene.specs.Scene.{factory_ops, scene_at_start}
@@ -25,25 +22,27 @@ use Rattle.drive_core.specs.Accepting.{accepted_of}
 use Rattle.drive_core.specs.Starting.{KnowsStart}
 use Rattle.drive_scene.specs.Present.{IsPresentMap}
 use Rattle.drive_core.specs.Kept.{Kept}
-use Rattle.drive_scene.proofs.AtStart.{on_after, sound_after, stood}
+use Rattle.drive_scene.specs.Laws.{IsFromFactory, FactoriesLeaveZeros}
 
 -- what is said of a store that was just made
 pub record IsFresh (store : Contained) : Type 0 where
   pub there : IsStore store
-  pub finds : KeepsBlocks store.map store.platter.ops store.platter.ops
-  pub may : store.map.number < 2 ^ 63 → MayBeRecovered store.map.size store.platter.ops store.map
+  pub finds : store.ready ≡ true → KeepsBlocks store.map store.platter.ops store.platter.ops
+  pub may : store.ready ≡ true → store.map.number < 2 ^ 63 → MayBeRecovered store.map.size store.platter.ops store.map
 
-fresh_at : (size : Size) (primary : List Psn) (d : Server) → d.store ≡ made_by_factory size primary → BlocksHaveOwnSectors
-    → IsFresh (made_by_factory size primary) → d.set ≡ [] → d.commands.items ≡ [] → d.arrived ≡ 0 → KnowsStart (capacity_of size) d.known
-    → Kept (run_of (made_by_factory size primary) [] 0) (record d { store = made_by_factory size primary })
-fresh_at size primary d is own fresh set commands arrived known =
-    let present : IsPresentMap (factory_map size primary) (factory_ops size primary) = record {
-      there = fresh.there.there;
+fresh_at : (made : Made) (d : Server) → d.store ≡ made_by_factory made.size made.primary → FactoriesLeaveZeros
+    → IsFresh (made_by_factory made.size made.primary) → d.set ≡ [] → d.commands.items ≡ [] → d.arrived ≡ 0 → KnowsStart (capacity_of made.size) d.known
+    → Kept (run_of made (made_by_factory made.size made.primary) [] 0) (record d { store = made_by_factory made.size made.primary })
+fresh_at made d is leaves fresh set commands arrived known =
+    let present : IsPresentMap (factory_map made.size made.primary) (factory_ops made) = record {
+      there = fresh.there.there refl;
       number = omega arith;
-      may_be = fresh.may (omega arith);
-      finds = fresh.finds;
+      may_be = fresh.may refl (omega arith);
+      finds = fresh.finds refl;
     } in
+    let zeros : IsFromFactory made = leaves made present in
     record {
+      size = refl;
       follow = refl;
       good = tt;
       fits = record {
@@ -52,9 +51,10 @@ fresh_at size primary d is own fresh set commands arrived known =
           map = refl;
           ops = refl;
           present = present;
-          powered = ap is_unpowered (on_after (factory_payloads size primary));
+          powered = zeros.powered;
           unarmed = refl;
-          sound = λ p. sound_after p (factory_payloads size primary);
+          ready = refl;
+          sound = zeros.sound;
         };
         cached = record { dirty = λ b. refl; ages = refl; known = λ b bytes held. absurd (cc); clean = λ b bytes held. absurd (cc) };
         known = record {
@@ -68,16 +68,16 @@ fresh_at size primary d is own fresh set commands arrived known =
           scan = known.scan;
         };
         tasks = record { set = set; arrived = arrived; came = All-nil _ };
-        staged = λ c. subst (λ (cs : List Accepted). IsStaged (view (scene_at_start size primary) c) (accepted_of cs c)) (sym commands) refl;
+        staged = λ c. subst (λ (cs : List Accepted). IsStaged (view (scene_at_start made) c) (accepted_of cs c)) (sym commands) refl;
         apart = λ c q b of_c of_q. absurd (let never : None ≡ Some b = of_c in cc);
         windows = λ c. omega arith;
-        stands = stood size primary own present;
+        stands = zeros.stands;
       };
       numbered = omega (arith, arrived);
     }
 
-pub kept-fresh : (size : Size) (primary : List Psn) (d : Server) → d.store ≡ made_by_factory size primary → BlocksHaveOwnSectors → IsFresh d.store
-    → d.set ≡ [] → d.commands.items ≡ [] → d.arrived ≡ 0 → KnowsStart (capacity_of size) d.known → Kept (run_of d.store [] 0) d
-kept-fresh size primary d is own fresh set commands arrived known =
-    subst (λ (store : Contained). Kept (run_of store [] 0) (record d { store = store })) (sym is)
-    (fresh_at size primary d is own (subst IsFresh is fresh) set commands arrived known)
+pub kept-fresh : (made : Made) (d : Server) → d.store ≡ made_by_factory made.size made.primary → FactoriesLeaveZeros → IsFresh d.store
+    → d.set ≡ [] → d.commands.items ≡ [] → d.arrived ≡ 0 → KnowsStart (capacity_of made.size) d.known → Kept (run_of made d.store [] 0) d
+kept-fresh made d is leaves fresh set commands arrived known =
+    subst (λ (store : Contained). Kept (run_of made store [] 0) (record d { store = store })) (sym is)
+    (fresh_at made d is leaves (subst IsFresh is fresh) set commands arrived known)

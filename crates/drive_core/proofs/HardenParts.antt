@@ -9,7 +9,6 @@ use Rattle.disk_base.specs.declared.block.Value.{Value}
 use Rattle.disk_base.specs.declared.block.Value.TheVariants.{Data}
 use Rattle.platter_model.specs.declared.op.Op.{Op}
 use Rattle.platter_model.specs.TrueLog.{strays}
-use Rattle.geometry_map.specs.DefectMap.{DefectMap}
 use Rattle.geometry_map.specs.Size.{capacity_of}
 use Rattle.sector_store.specs.Stored.{stored}
 use Rattle.write_cache.specs.Contents.{Contents, is_at, newest}
@@ -20,7 +19,7 @@ use Rattle.block_machine.proofs.Booleans.{true_not_false}
 use Rattle.drive_scene.specs.Scene.{Scene, capacity}
 use Rattle.drive_scene.specs.Evidence.{IsKnown}
 use Rattle.drive_core.specs.Fits.{IsClean, IsCached}
-use Rattle.drive_core.specs.Hardening.{Settles}
+use Rattle.sector_store.specs.Caching.{Settles}
 use Rattle.drive_core.proofs.Parts.{known-more}
 use Rattle.geometry_map.specs.declared.size.Size.{Size}
 

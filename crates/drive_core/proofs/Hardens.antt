@@ -1,5 +1,5 @@
 -- A turn in which a command hardens the dirty block that it needs.
-use Rattle.std.proofs.Common.{◌≡◌, ℕ, ◌<◌, ◌≤◌, Bool, true, false, cond, ltb, List, [], ◌∷◌, ◌++◌, Option, Some, None, IsSome, refl, sym, ap, ◌∙◌, subst, arith, ⊎_elim}
+use Rattle.std.proofs.Common.{◌≡◌, ℕ, ◌<◌, ◌≤◌, ◌^◌, Bool, true, false, cond, ltb, List, [], ◌∷◌, ◌++◌, Option, Some, None, IsSome, refl, sym, ap, ◌∙◌, subst, arith, ⊎_elim}
 use Rattle.std.specs.Prelude.{IsTrue}
 use Rattle.std.specs.Option.{option_map, option_and_then}
 use Rattle.std.proofs.lemmas.Bool.{ltb-true, ltb-false, cases_Bool}
@@ -7,16 +7,19 @@ use Rattle.disk_base.specs.declared.address.Lba.{Lba}
 use Rattle.disk_base.specs.declared.block.Value.TheVariants.{Data}
 use Rattle.platter_model.specs.declared.op.Op.{Op}
 use Rattle.platter_model.specs.declared.op.Op.TheVariants.{Wrote}
-use Rattle.platter_model.specs.State as platter
+use Rattle.platter_model.specs.Sector.{is_faulty}
+use Rattle.platter_model.specs.TrueLog.{is_off}
+use Rattle.geometry_map.specs.Size.{capacity_of}
 use Rattle.mode_pages.specs.declared.settings.Settings.{Settings}
 use Rattle.sense_data.specs.declared.reply.Reply.{Reply}
-use Rattle.geometry_map.specs.DefectMap.{DefectMap}
+use Rattle.geometry_map.specs.DefectMap.{DefectMap, place_of}
 use Rattle.geometry_map.specs.Laws.{BlocksHaveOwnSectors}
 use Rattle.task_set.specs.declared.member.Member.{Member}
 use Rattle.task_set.specs.Members.{member_of, without}
 use Rattle.write_cache.specs.Contents.{newest}
-use Rattle.sector_store.specs.State.{Contained, placed}
-use Rattle.sector_store.specs.Stored.{StoresAt, KeepsOthers}
+use Rattle.sector_store.specs.State.{Contained, IsStore, placed}
+use Rattle.sector_store.specs.Maps.{MayBeRecovered}
+use Rattle.sector_store.specs.Stored.{StoresAt, KeepsBlocks, KeepsOthers}
 use Rattle.cdb_reader.specs.declared.plan.Syncing as syncing
 use Rattle.cdb_reader.specs.declared.plan.Plan.{Plan}
 use Rattle.cdb_reader.specs.declared.plan.Plan.TheVariants.{Reading, Syncing}
@@ -42,17 +45,20 @@ use Rattle.drive_scene.specs.Evidence.{lba}
 use Rattle.drive_scene.specs.View.{view}
 use Rattle.drive_core.specs.Commands.{IsWorking}
 use Rattle.drive_core.specs.Fits.{Fits}
-use Rattle.drive_core.specs.Hardening.{Hardens, MayHardenFor, hardened_at, done_before}
+use Rattle.sector_store.specs.Caching.{Hardens}
+use Rattle.drive_core.specs.Hardening.{MayHardenFor, hardened_at, done_before}
 use Rattle.drive_scene.specs.Ending.{ended_of_member}
 use Rattle.drive_core.specs.Moves.{Moves, Leaves}
-use Rattle.drive_core.proofs.Closing.{Goes, Stops}
+use Rattle.drive_core.proofs.Closing.{Goes, Stops, present_after}
 use Rattle.drive_core.proofs.FirstDirty.{none_before_first}
 use Rattle.drive_core.proofs.Hardened.{IsMet, met_dirty, read, sync}
 use Rattle.drive_scene.specs.Kinds.{IsHarden}
-use Rattle.drive_core.proofs.HardenMoves.{IsHardenTurn}
+use Rattle.drive_core.proofs.HardenMoves.{HardenLaws, IsHardenTurn}
 use Rattle.drive_core.proofs.MetMoves.{met_course, owed_is, through_moves}
 use Rattle.drive_core.proofs.SyncMoves.{sync_hardens, sync_passes}
 use Rattle.drive_core.proofs.TakeTurns.{WorksAt, works_at, StandsAt, stands_in, free_block}
+use Rattle.drive_core.proofs.Written.{MayStore}
+use Rattle.drive_scene.specs.Present.{IsPresentMap}
 use Rattle.drive_scene.proofs.Tables.{within_map}
 
 -- what a turn that hardens a block is made of
@@ -144,10 +150,30 @@ below_met : (b : Lba) (plan : Plan) (step : Step) (high : ℕ) → IsMet b plan 
 below_met b plan step high (read r p left through fresh at) range = omega (arith, left, at, range)
 below_met b plan step high (sync y p low before) range = omega (arith, before, range)
 
+-- a write to the block's place is carried out
+pub may_harden : (s : Scene) (d : Server) (c : ℕ) (b : Lba) (before : List Entry) → MayHardenFor s d c b before → MayStore d.store b
+may_harden s d c b before may =
+    let w : Course = may.course in
+    let fits : Fits s d = may.may.fits in
+    let stands : StandsAt s c may.course = stands_in s d c may.course may.may.fits may.under_way in
+    let below : b.0 < capacity s = below_met b w.plan w.step (capacity s) (met_dirty w b may.fit) stands.working.range in
+    record {
+      below = subst (λ (m : DefectMap). b.0 < capacity_of m.size) (sym fits.store.map) (within_map s b fits.size below);
+      powered = ap is_off fits.store.ops ∙ fits.store.powered;
+      sound = ap (is_faulty (place_of d.store.map b)) fits.store.ops ∙ fits.store.sound (place_of d.store.map b);
+      unarmed = fits.store.unarmed;
+    }
+
 -- all that a turn which hardens a block was made of
 pub record IsTurn (d mid e : Server) (c : ℕ) (b : Lba) (before entries : List Entry) (reply : Option Reply) (told : Option told_end.Ended) : Type 0 where
   pub own : BlocksHaveOwnSectors
+  pub laws : HardenLaws
   pub hardens : (bytes : List ℕ) → newest b d.store.cache ≡ Some bytes → Hardens d.store b bytes mid.store
+  pub stores : (bytes : List ℕ) → newest b d.store.cache ≡ Some bytes → StoresAt d.store.map mid.store.platter.ops b (Data bytes)
+  pub keeps : KeepsOthers d.store.map d.store.platter.ops mid.store.platter.ops b
+  pub store : IsStore mid.store
+  pub finds : mid.store.ready ≡ true → KeepsBlocks mid.store.map mid.store.platter.ops mid.store.platter.ops
+  pub may_be : mid.store.ready ≡ true → mid.store.map.number < 2 ^ 63 → MayBeRecovered mid.store.map.size mid.store.platter.ops mid.store.map
   pub set : mid.set ≡ d.set
   pub arrived : mid.arrived ≡ d.arrived
   pub known : mid.known ≡ d.known
@@ -169,10 +195,16 @@ turn_moves s d mid e c b before entries reply told may is =
     let held = some_of (newest b d.store.cache) may.dirty in
     let bytes : List ℕ = held.0 in
     let closed : e.store ≡ mid.store = store_closed mid e c reply (λ none. (is.goes none).0) (λ x some. (is.ends x some).0) in
-    let hardens : Hardens d.store b held.0 e.store = subst (λ (x : Contained). Hardens d.store b held.0 x) (sym closed) (is.hardens held.0 held.1) in
+    let P : Contained → Type 0 = λ x. Hardens d.store b held.0 x × StoresAt d.store.map x.platter.ops b (Data held.0)
+    × KeepsOthers d.store.map d.store.platter.ops x.platter.ops b × IsPresentMap x.map x.platter.ops in
+    let there : IsPresentMap mid.store.map mid.store.platter.ops =
+    present_after s d.store mid.store fits.store (ap (λ (x : Contained). x.map) (is.hardens held.0 held.1).after)
+    (ap (λ (x : Contained). x.ready) (is.hardens held.0 held.1).after) is.store is.finds is.may_be in
+    let all : P e.store = subst P (sym closed) (is.hardens held.0 held.1, is.stores held.0 held.1, is.keeps, there) in
+    let hardens : Hardens d.store b held.0 e.store = all.0 in
     let below : b.0 < capacity s = below_met b w.plan w.step (capacity s) (met_dirty w b may.fit) stands.working.range in
     let ops : e.store.platter.ops ≡ s.ops ++ Wrote (placed s.map b held.0) ∷ [] =
-    ap (λ (x : platter.State). x.ops) hardens.platter
+    ap (λ (x : Contained). x.platter.ops) hardens.after
     ∙ (λ i. fits.store.ops i ++ Wrote (placed (fits.store.map i) b held.0) ∷ []) in
     let harden : IsHarden s c b held.0 = record {
       size = fits.size;
@@ -183,13 +215,13 @@ turn_moves s d mid e c b before entries reply told may is =
       stood = fits.stands;
       may_be = fits.store.present.may_be;
       stores = subst (λ (xs : List Op). StoresAt s.map xs b (Data held.0)) ops
-          (subst (λ (m : DefectMap). StoresAt m e.store.platter.ops b (Data held.0)) fits.store.map hardens.stored);
+          (subst (λ (m : DefectMap). StoresAt m e.store.platter.ops b (Data held.0)) fits.store.map all.1);
       keeps = subst (λ (xs : List Op). KeepsOthers s.map s.ops xs b) ops
           (subst (λ (xs : List Op). KeepsOthers s.map xs e.store.platter.ops b) fits.store.ops
-          (subst (λ (m : DefectMap). KeepsOthers m d.store.platter.ops e.store.platter.ops b) fits.store.map hardens.kept));
+          (subst (λ (m : DefectMap). KeepsOthers m d.store.platter.ops e.store.platter.ops b) fits.store.map all.2));
     } in
     hardened_moves s d e c b held.0 w stands.m at.a before entries reply told may.fit (record {
-      turn = record { fits = fits; is = harden; held = held.1; hardens = hardens };
+      turn = record { fits = fits; is = harden; held = held.1; hardens = hardens; present = all.3; laws = is.laws };
       is_in = stands.is_in;
       working = stands.working;
       needed = may.needed;

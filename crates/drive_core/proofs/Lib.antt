@@ -1,10 +1,9 @@
 pub mod Placing
-pub mod Settling
 pub mod Pushes
 pub mod GoodRuns
 pub mod Elsewhere
-pub mod LeftOut
 pub mod Written
+pub mod Sought
 pub mod PutParts
 pub mod WriteTurns
 pub mod WriteKinds
@@ -34,6 +33,7 @@ pub mod Unmoved
 pub mod ArrivalTurns
 pub mod AskedTurns
 pub mod Holding
+pub mod Claimed
 pub mod Throughs
 pub mod StartTurns
 pub mod StartPages

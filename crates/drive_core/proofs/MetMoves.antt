@@ -47,7 +47,7 @@ use Rattle.drive_scene.proofs.Elsewhere.{after_half}
 use Rattle.drive_core.proofs.Closing.{Goes}
 use Rattle.drive_scene.proofs.Doing.{owed-begun, hardened_duty}
 use Rattle.drive_scene.specs.Kinds.{IsHarden}
-use Rattle.drive_scene.proofs.HardenTurns.{half_hardened, hardened-newest}
+use Rattle.drive_scene.proofs.HardenTurns.{hardened-newest}
 use Rattle.drive_core.proofs.HardenMoves.{IsHardenTurn, op_of, harden_on}
 
 -- a command in the set owes its plan
@@ -120,7 +120,7 @@ module _ (s : Scene) (c : ℕ) (m : Member) (settings : Settings) (gives : Bool)
       let later : Plan = Reading (record r { hardened = true }) in
       let on : reply ≡ None = reply_is ∙ ap (λ (t : Bool). cond t None (Some (report_of r.reports rec))) (lt-ltb r.at r.end left) in
       let half : Half s c (op_of s b bytes ∷ []) (Harden (Command c) b ∷ []) (steps.entry_after (capacity s) (Work c) (steps.begun s.hist (Work c)) (Harden (Command c) b)) (Reading (record r { hardened = true })) =
-      half_hardened s c b bytes (Reading r) (Reading (record r { hardened = true })) turn.is (owed_is s c m (Reading r) is_in working.owes) (next-through r b left through fresh at) in
+      turn.laws.hardens s c b bytes (Reading r) (Reading (record r { hardened = true })) turn.is (owed_is s c m (Reading r) is_in working.owes) (next-through r b left through fresh at) in
       harden_on s d e c b bytes turn (Harden (Command c) b ∷ []) entries (steps.entry_after (capacity s) (Work c) (steps.begun s.hist (Work c)) (Harden (Command c) b))
       (Reading (record r { hardened = true })) told half refl refl (record a { work = Some (hardened_at b (met_course (Reading r))) }) refl refl
       (staged_through r a (op_of s b bytes ∷ []) is_in working turn.is left through fresh at)

@@ -3,7 +3,6 @@ use Rattle.std.proofs.Common.{◌≡◌, ◌≢◌, ℕ, zero, suc, ◌-◌, ◌
 use Rattle.std.specs.Prelude.{slice_index, Result, Ok, Err}
 use Rattle.std.specs.Option.{option_and_then, is_some}
 use Rattle.std.proofs.lemmas.Bool.{eq-eqb, leb-true, and_parts}
-use Rattle.std.proofs.lemmas.List.Elements.{All-nil}
 use Rattle.disk_base.specs.declared.command.DataOut.{DataOut}
 use Rattle.sense_data.specs.declared.sense.Sense.{Sense}
 use Rattle.sense_data.specs.declared.reply.Reply.{Reply}
@@ -40,10 +39,10 @@ use Rattle.drive_scene.specs.declared.answer.Ended as told_end
 use Rattle.drive_core.specs.declared.server.Server.{Server}
 use Rattle.drive_core.specs.Accepting.{Drops}
 use Rattle.drive_scene.specs.Ending.{ended_of_member}
-use Rattle.drive_scene.specs.Evidence.{lba, IsEndShown}
+use Rattle.drive_scene.specs.Evidence.{IsEndShown}
 use Rattle.drive_core.specs.Fits.{Fits}
-use Rattle.drive_scene.specs.GoodTurn.{WritesBlockData}
 use Rattle.drive_scene.specs.Scene.{beat, Scene, capacity, scene_after}
+use Rattle.drive_scene.specs.Laws.{StillTurnsAreGood}
 use Rattle.drive_core.specs.Moves.{Moves}
 use Rattle.drive_core.specs.Starting.{IsSelected}
 use Rattle.drive_scene.proofs.Tables.{put_at-own, put_at-other}
@@ -51,10 +50,9 @@ use Rattle.drive_scene.proofs.Keyed.{find-dropped_other}
 use Rattle.drive_scene.proofs.Elsewhere.{IsAlike}
 use Rattle.drive_scene.proofs.Halves.{end_lawful, over_owes}
 use Rattle.drive_scene.proofs.FirstPlans.{IsNoEnding, plan_unmet, same_reply-own}
-use Rattle.drive_core.proofs.Unmoved.{still_stands, none_added, standing}
+use Rattle.drive_core.proofs.Unmoved.{none_added, standing}
 use Rattle.drive_scene.proofs.GetTurns.{begun-duty}
 use Rattle.drive_core.proofs.StartTurns.{MayStart, IsBegun, plan_of_start, start_lawful, start-asks, start-owes, started_state, find-started_own, find-started_other, told-warned, waiting_told, waiting_then, windows, fits_ended, told_as_in}
-use Rattle.drive_scene.proofs.Still.{good_still}
 
 -- a command whose plan is to change mode values meets no attention and isn't refused
 pub plan_changes : (capacity i : ℕ) (h : State) (code : ℕ) (asks given : Result Request Sense) (sent : DataOut) (plan : Plan)
@@ -156,7 +154,7 @@ changes s d e c made fits may begins store arrived known = record {
   };
 }
 
-module _ (s : Scene) (d e : Server) (c : ℕ) (made : Settings) (is : Changes s d e c made) where
+module _ (s : Scene) (d e : Server) (c : ℕ) (made : Settings) (is : Changes s d e c made) (still : StillTurnsAreGood) where
   -- the history before the change, and after it
   abbrev h : State
   h = started_state s c
@@ -221,7 +219,7 @@ module _ (s : Scene) (d e : Server) (c : ℕ) (made : Settings) (is : Changes s 
       let moves : M (Started c ∷ Mode made ∷ Ended c good ∷ []) (ended_of_member (member_of s.hist.set c) good) = record {
         ops = [];
         added = none_added s d e is.leaves.fits is.leaves.store;
-        good = good_still s (Work c) (Started c ∷ Mode made ∷ Ended c good ∷ []) (standing s d e is.leaves.fits is.leaves.store) (record {
+        good = still s (Work c) (Started c ∷ Mode made ∷ Ended c good ∷ []) (standing s d e is.leaves.fits is.leaves.store) (record {
           tasks = and_both _ _ (and_both true _ refl (and_both _ _ (start_lawful s d c is.leaves.may) (and_both _ _ change_lawful (and_both _ true end_is_lawful refl))))
               (ap owes_nothing_now (over_owes (capacity s) after c good));
           blocks = refl;

@@ -14,7 +14,6 @@ use Rattle.platter_model.specs.declared.op.Op.{Op}
 use Rattle.platter_model.specs.declared.op.Op.TheVariants.{Tried}
 use Rattle.platter_model.specs.Sector.{is_faulty, faulty_after}
 use Rattle.platter_model.specs.TrueLog.{supply_after, powered, is_unpowered, is_off, strays}
-use Rattle.geometry_map.specs.DefectMap.{DefectMap}
 use Rattle.geometry_map.specs.Size.{capacity_of}
 use Rattle.write_cache.specs.Contents.{Contents, IsCache, is_at, clean_data, with_clean, after_look}
 use Rattle.write_cache.specs.Laws.{KeepsOthers}

@@ -10,7 +10,6 @@ use Rattle.disk_base.specs.declared.block.Value.{Value}
 use Rattle.disk_base.specs.declared.block.Value.TheVariants.{Data}
 use Rattle.platter_model.specs.declared.op.Op.{Op}
 use Rattle.platter_model.specs.TrueLog.{strays}
-use Rattle.geometry_map.specs.DefectMap.{DefectMap}
 use Rattle.geometry_map.specs.Size.{capacity_of}
 use Rattle.sector_store.specs.Stored.{stored}
 use Rattle.write_cache.specs.Contents.{Contents, IsCache, IsFullFor, is_at, newest, put_data}
@@ -26,7 +25,7 @@ use Rattle.block_machine.specs.Steps.{begun}
 use Rattle.drive_scene.specs.Scene.{Scene}
 use Rattle.drive_scene.specs.Evidence.{IsKnown}
 use Rattle.drive_core.specs.Fits.{IsClean, IsCached}
-use Rattle.drive_core.specs.Putting.{TakesIn, LeavesOut, NewestBut}
+use Rattle.sector_store.specs.Caching.{TakesIn, LeavesOut, NewestBut}
 use Rattle.drive_scene.proofs.Tables.{put_at-own}
 use Rattle.drive_core.proofs.Parts.{known-more}
 use Rattle.drive_scene.proofs.PutTurns.{newest-put}

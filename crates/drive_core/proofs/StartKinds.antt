@@ -35,6 +35,7 @@ use Rattle.drive_core.specs.Accepting.{under_way, Replaces}
 use Rattle.drive_scene.specs.View.{View}
 use Rattle.drive_core.specs.Commands.{IsAtBlock, IsOwnRange, IsOwnRecovery}
 use Rattle.drive_scene.specs.Holds.{held_by_plan}
+use Rattle.drive_scene.specs.Laws.{StillTurnsAreGood}
 use Rattle.drive_core.specs.Moves.{Moves, MayWork}
 use Rattle.drive_core.specs.Served.{is_served, is_served_plan}
 use Rattle.drive_core.specs.Starting.{IsFirst}
@@ -146,8 +147,8 @@ at_first : (r : Request) (sent : DataOut) (x : Settings) → IsOnBlocks r → eq
 at_first r sent x (reads from count fua) some v window same clean =
     let least : count ≢ 0 = eqb-false count 0 some in
     first_read v (record { at = from; end = from + count; through = fua; reports = x.per; hardened = false }) x (omega arith) window same clean
-at_first r sent x (writes from count fua) some v window same clean = let least : count ≢ 0 = eqb-false count 0 some in (window, omega arith)
-at_first r sent x (writes_verified from count) some v window same clean = let least : count ≢ 0 = eqb-false count 0 some in (window, omega arith)
+at_first r sent x (writes from count fua) some v window same clean = let least : count ≢ 0 = eqb-false count 0 some in (window, omega arith, refl)
+at_first r sent x (writes_verified from count) some v window same clean = let least : count ≢ 0 = eqb-false count 0 some in (window, omega arith, refl)
 at_first r sent x (verifies from count) some v window same clean =
     let least : count ≢ 0 = eqb-false count 0 some in
     first_read v (record { at = from; end = from + count; through = true; reports = x.per; hardened = false }) x (omega arith) window same clean
@@ -272,11 +273,11 @@ course_on s d c r sent settings w is settings_is sent_is w_is =
 
 -- its first turn
 pub starts_on : (s : Scene) (d e : Server) (c : ℕ) (r : Request) (sent : DataOut) (settings : Settings) (w : Course) (entries : List Entry) (told : Option told_end.Ended)
-    → (on : BeginsOn s d c r) → (is : IsStartOf s d e c) → settings ≡ s.hist.settings → sent ≡ (s.hist.duties c).sent → w ≡ course_of r sent settings
+    → (on : BeginsOn s d c r) → (is : IsStartOf s d e c) → StillTurnsAreGood → settings ≡ s.hist.settings → sent ≡ (s.hist.duties c).sent → w ≡ course_of r sent settings
     → e.set ≡ with_started d.set c → Replaces d.commands.items e.commands.items c (record is.may.a { sent = Nothing; work = Some w })
     → entries ≡ Started c ∷ [] → told ≡ None → Moves (Work c) s d e entries told
-starts_on s d e c r sent settings w entries told on is settings_is sent_is w_is =
-    starts_working s d e c is w entries told (gives_data r) (work_plan r (s.hist.duties c).sent s.hist.settings) on.plan_is
+starts_on s d e c r sent settings w entries told on is still settings_is sent_is w_is =
+    starts_working s d e c is still w entries told (gives_data r) (work_plan r (s.hist.duties c).sent s.hist.settings) on.plan_is
     (settled r (s.hist.duties c).sent s.hist.settings on.on) (at_first r (s.hist.duties c).sent s.hist.settings on.on on.some)
     (unheld r (s.hist.duties c).sent s.hist.settings on.on) (ends_within r (s.hist.duties c).sent s.hist.settings (capacity s) on.on on.range)
     (own_range (s.hist.duties c).asks r (s.hist.duties c).sent s.hist.settings on.on on.asks) (plan_served r (s.hist.duties c).sent s.hist.settings on.on)

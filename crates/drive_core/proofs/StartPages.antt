@@ -3,7 +3,6 @@ use Rattle.std.proofs.Common.{◌≡◌, ◌≢◌, ℕ, Bool, true, false, cond
 use Rattle.std.specs.Prelude.{Result, Ok}
 use Rattle.std.specs.Option.{option_and_then, is_some}
 use Rattle.std.proofs.lemmas.Bool.{eq-eqb}
-use Rattle.std.proofs.lemmas.List.Elements.{All-nil}
 use Rattle.std.proofs.lemmas.Slice.Eq.{bytes_eq-Decides}
 use Rattle.disk_base.specs.declared.command.DataOut.{DataOut}
 use Rattle.sense_data.specs.declared.sense.Sense.{Sense}
@@ -34,9 +33,9 @@ use Rattle.drive_core.specs.declared.server.Server.{Server}
 use Rattle.drive_core.specs.declared.starting.First.TheVariants as first_variant
 use Rattle.drive_core.specs.Accepting.{Drops}
 use Rattle.drive_scene.specs.Ending.{ended_of_member}
-use Rattle.drive_scene.specs.Evidence.{lba, IsEndShown, page_of}
-use Rattle.drive_scene.specs.GoodTurn.{WritesBlockData}
+use Rattle.drive_scene.specs.Evidence.{IsEndShown, page_of}
 use Rattle.drive_scene.specs.Scene.{beat, Scene, capacity, scene_after}
+use Rattle.drive_scene.specs.Laws.{StillTurnsAreGood}
 use Rattle.drive_core.specs.Moves.{Moves}
 use Rattle.drive_core.specs.Starting.{IsFirst}
 use Rattle.drive_scene.proofs.Tables.{put_at-own, put_at-other}
@@ -45,9 +44,8 @@ use Rattle.drive_scene.proofs.Elsewhere.{IsAlike}
 use Rattle.drive_scene.proofs.Halves.{end_lawful, over_owes}
 use Rattle.drive_scene.proofs.DefectPages.{defect_data-heading, defect_data-length}
 use Rattle.drive_scene.proofs.FirstPlans.{IsNoEnding, plan_there, plan_unmet, same_reply-own}
-use Rattle.drive_core.proofs.Unmoved.{still_stands, none_added, standing}
+use Rattle.drive_core.proofs.Unmoved.{none_added, standing}
 use Rattle.drive_core.proofs.StartTurns.{BeginsWithPage, begins_with_page, IsStartOf, plan_of_start, start_lawful, start-asks, start-owes, started_state, find-started_own, find-started_other, waiting_then, windows, fits_ended, told_as_in}
-use Rattle.drive_scene.proofs.Still.{good_still}
 
 -- the data that a command gives are what its plan owes, and what the drive's map has
 pub record IsOwedPage (m : DefectMap) (asks : Result Request Sense) (c : ℕ) (planned bytes : List ℕ) : Type 0 where
@@ -95,7 +93,8 @@ begins_to_give s d e c bytes reply is first =
           is.fits.store.present.there.valid is.fits.known.readable asked begins.page_is;
     }
 
-module _ (s : Scene) (d e : Server) (c : ℕ) (bytes : List ℕ) (reply : Reply) (is : IsStartOf s d e c) (gives : BeginsToGive s d e c bytes reply) where
+module _ (s : Scene) (d e : Server) (c : ℕ) (bytes : List ℕ) (reply : Reply) (is : IsStartOf s d e c) (gives : BeginsToGive s d e c bytes reply)
+    (still : StillTurnsAreGood) where
   -- the history before the data, and after them
   abbrev h : State
   h = started_state s c
@@ -150,7 +149,7 @@ module _ (s : Scene) (d e : Server) (c : ℕ) (bytes : List ℕ) (reply : Reply)
       let moves : M (Started c ∷ Page c bytes ∷ Ended c reply ∷ []) (ended_of_member (member_of s.hist.set c) reply) = record {
         ops = [];
         added = none_added s d e is.fits is.store;
-        good = good_still s (Work c) (Started c ∷ Page c bytes ∷ Ended c reply ∷ []) (standing s d e is.fits is.store) (record {
+        good = still s (Work c) (Started c ∷ Page c bytes ∷ Ended c reply ∷ []) (standing s d e is.fits is.store) (record {
           tasks = and_both _ _ (and_both true _ refl (and_both _ _ (start_lawful s d c is.may) (and_both _ _ page_lawful (and_both _ true end_is_lawful refl))))
               (ap owes_nothing_now (over_owes (capacity s) after c reply));
           blocks = refl;

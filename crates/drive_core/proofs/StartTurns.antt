@@ -3,7 +3,7 @@ use Rattle.std.proofs.Common.{◌≡◌, ◌≢◌, ℕ, ◌≤◌, Bool, true, 
 use Rattle.std.specs.Prelude.{◌&&◌, ◌||◌, All, unwrap_or, slice_index, IsSome, IfOk, Result, Ok, Err}
 use Rattle.std.specs.Option.{option_and_then, option_map, option_map_or, is_none}
 use Rattle.std.proofs.lemmas.Bool.{eq-eqb, ne_eqb, eqb-true}
-use Rattle.std.proofs.lemmas.List.Elements.{All-nil, All-map, All-weaker, All-filter}
+use Rattle.std.proofs.lemmas.List.Elements.{All-map, All-weaker, All-filter}
 use Rattle.platter_model.specs.declared.op.Op.{Op}
 use Rattle.sense_data.specs.declared.reply.Reply.{Reply}
 use Rattle.task_set.specs.declared.member.Member.{Member}
@@ -50,8 +50,7 @@ use Rattle.drive_core.specs.declared.server.Server.{Server}
 use Rattle.drive_scene.specs.declared.answer.TurnAnswer.TheVariants as answer
 use Rattle.drive_scene.specs.declared.answer.Ended as told_end
 use Rattle.drive_scene.specs.Ending.{ended_of_member}
-use Rattle.drive_scene.specs.Evidence.{lba, IsEndShown, page_of}
-use Rattle.drive_scene.specs.GoodTurn.{WritesBlockData}
+use Rattle.drive_scene.specs.Evidence.{IsEndShown, page_of}
 use Rattle.drive_core.specs.Served.{is_served, is_served_plan}
 use Rattle.command_engine.specs.Need.{end_of}
 use Rattle.drive_scene.specs.Scene.{Scene, capacity, scene_after, window_after, beat}
@@ -59,6 +58,7 @@ use Rattle.drive_scene.specs.Able.{refusal_of_work, held_by_other, work_refused}
 use Rattle.drive_scene.specs.Holds.{held_block, held_by_plan, needed_block}
 use Rattle.drive_core.specs.Accepting.{accepted_of, under_way, Replaces, Drops}
 use Rattle.drive_scene.specs.View.{View, view}
+use Rattle.drive_scene.specs.Laws.{StillTurnsAreGood}
 use Rattle.drive_core.specs.Commands.{IsStaged, IsCommand, IsUnderWay, IsWaiting, IsWorking, IsAtBlock, IsOwnRange}
 use Rattle.drive_core.specs.Fits.{Fits, IsCached, KnowsHistory}
 use Rattle.drive_core.specs.Moves.{Moves, MayWork}
@@ -74,7 +74,6 @@ use Rattle.drive_core.proofs.Fitting.{known-told, retry-known}
 use Rattle.drive_core.proofs.Unmoved.{still_stands, has_same, none_added, standing}
 use Rattle.drive_scene.proofs.GetTurns.{begun-duty}
 use Rattle.drive_scene.proofs.FirstPlans.{IsNoEnding, same_reply-own}
-use Rattle.drive_scene.proofs.Still.{good_still}
 
 -- a command that may start
 pub record MayStart (s : Scene) (d : Server) (c : ℕ) : Type 0 where
@@ -281,7 +280,7 @@ module _ (s : Scene) (d e : Server) (c : ℕ) {settings : Settings} {waiting : W
       ∙ (ap (λ (o : Option Member). ended_of_member o reply) (find-started_own c s.hist.set is.may.m is.may.is_in)
       ∙ sym (ap (λ (o : Option Member). ended_of_member o reply) is.may.is_in)))
 
-module _ (s : Scene) (d e : Server) (c : ℕ) (is : IsStartOf s d e c) where
+module _ (s : Scene) (d e : Server) (c : ℕ) (is : IsStartOf s d e c) (still : StillTurnsAreGood) where
   -- it ends at once
   pub starts_and_ends : (reply : Reply) (entries : List Entry) (told : Option told_end.Ended) → plan_of_start s c ≡ Ending reply
       → e.set ≡ without (with_started d.set c) c → Drops d.commands.items e.commands.items c → entries ≡ Started c ∷ Ended c reply ∷ []
@@ -307,7 +306,7 @@ module _ (s : Scene) (d e : Server) (c : ℕ) (is : IsStartOf s d e c) where
       let moves : M (Started c ∷ Ended c reply ∷ []) (ended_of_member (member_of s.hist.set c) reply) = record {
         ops = [];
         added = none_added s d e is.fits is.store;
-        good = good_still s (Work c) (Started c ∷ Ended c reply ∷ []) (standing s d e is.fits is.store) (record {
+        good = still s (Work c) (Started c ∷ Ended c reply ∷ []) (standing s d e is.fits is.store) (record {
           tasks = and_both _ _ (and_both true _ refl (and_both _ _ (start_lawful s d c is.may) (and_both _ true last refl)))
               (ap owes_nothing_now (over_owes (capacity s) h c reply));
           blocks = refl;
@@ -376,7 +375,7 @@ module _ (s : Scene) (d e : Server) (c : ℕ) (is : IsStartOf s d e c) where
       let moves : M (Started c ∷ []) None = record {
         ops = [];
         added = none_added s d e is.fits is.store;
-        good = good_still s (Work c) (Started c ∷ []) (standing s d e is.fits is.store) (record {
+        good = still s (Work c) (Started c ∷ []) (standing s d e is.fits is.store) (record {
           tasks = and_both _ _ (and_both true _ refl (and_both _ true (start_lawful s d c is.may) refl)) (ap owes_nothing_now owes ∙ settled);
           blocks = refl;
           shown = (tt, tt);

@@ -41,13 +41,11 @@ use Rattle.drive_core.specs.Hardening.{hardened_at}
 use Rattle.drive_core.specs.Moves.{Moves}
 use Rattle.drive_scene.proofs.Tables.{put_at-own}
 use Rattle.drive_scene.specs.Half.{Half}
-use Rattle.drive_scene.proofs.Apart.{holds_none}
+use Rattle.drive_scene.proofs.Apart.{holds_none, unheld_sync}
 use Rattle.drive_scene.proofs.Elsewhere.{after_half}
 use Rattle.drive_core.proofs.Closing.{Goes, Stops}
 use Rattle.drive_scene.proofs.Doing.{owed-begun, passed_owes, hardened_duty}
 use Rattle.drive_scene.specs.Kinds.{hardened_blocks, passed_state}
-use Rattle.drive_scene.proofs.HardenTurns.{half_hardened}
-use Rattle.drive_scene.proofs.PassTurns.{half_passed_hardened}
 use Rattle.drive_core.proofs.HardenMoves.{IsHardenTurn, op_of, harden_on, harden_ends}
 use Rattle.drive_core.proofs.MetMoves.{met_course, owed_is}
 
@@ -118,7 +116,7 @@ module _ (s : Scene) (c : ℕ) (m : Member) (settings : Settings) (gives : Bool)
       let on : reply ≡ None = reply_is ∙ ap (λ (t : Bool). cond t None (Some good)) left in
       harden_on s d e c b bytes turn half entries h (Syncing (behind y (b.0 + 1))) told is blocks_are order (record a { work = Some then_course }) refl none
       (staged_sync s c m settings gives rec p y (b.0 + 1) is_in working (op_of s b bytes ∷ []) half h is owes window recovered a (ltb-true (b.0 + 1) y.end left))
-      (holds_none s c ((after_half s c (op_of s b bytes ∷ []) half).windows c) (Syncing (behind y (b.0 + 1))) refl) (goes on))
+      (holds_none s c ((after_half s c (op_of s b bytes ∷ []) half).windows c) (Syncing (behind y (b.0 + 1))) (unheld_sync _ (behind y (b.0 + 1)) window)) (goes on))
       (λ (last : ltb (b.0 + 1) y.end ≡ false).
       let end_is : b.0 + 1 ≡ y.end = omega (arith, below, ltb-false (b.0 + 1) y.end last) in
       let off : reply ≡ Some good = reply_is ∙ ap (λ (t : Bool). cond t None (Some good)) last in
@@ -136,7 +134,7 @@ module _ (s : Scene) (c : ℕ) (m : Member) (settings : Settings) (gives : Bool)
       next-hardened y b at left ∙ ap (λ (n : ℕ). Some (Syncing (behind y (n + 1)))) (sym at) in
       let owed = owed_is s c m (Syncing y) is_in working.owes in
       synced (Harden (Command c) b ∷ []) (steps.entry_after (capacity s) (Work c) (steps.begun s.hist (Work c)) (Harden (Command c) b))
-      (half_hardened s c b bytes (Syncing y) (Syncing (behind y (b.0 + 1))) turn.is owed may) refl refl
+      (turn.laws.hardens s c b bytes (Syncing y) (Syncing (behind y (b.0 + 1))) turn.is owed may) refl refl
       (hardened_duty (capacity s) g c b (Syncing y) (Syncing (behind y (b.0 + 1))) (owed-begun s.hist c ∙ owed) may)
       (put_at-own c (window_after c (s.windows c) (beat (Work c) (Harden (Command c) b ∷ []) (op_of s b bytes ∷ []))) s.windows
       ∙ ap (λ (t : Bool). cond (t || false) [] (s.windows c ++ op_of s b bytes ∷ [])) (eq-eqb c c refl))
@@ -154,7 +152,7 @@ module _ (s : Scene) (c : ℕ) (m : Member) (settings : Settings) (gives : Bool)
       let passed : owed_by (passed_state s c (lba y.at) b) c ≡ Some (Syncing (record y { at = b.0 })) =
       passed_owes (capacity s) g c (lba y.at) b (Syncing y) (Syncing (record y { at = b.0 })) (owed-begun s.hist c ∙ owed) may_pass in
       synced (Passed c (lba y.at) b ∷ Harden (Command c) b ∷ []) (steps.entry_after (capacity s) (Work c) (passed_state s c (lba y.at) b) (Harden (Command c) b))
-      (half_passed_hardened s c (lba y.at) b bytes (Syncing y) (Syncing (record y { at = b.0 })) (Syncing (behind y (b.0 + 1))) turn.is owed may_pass may clean)
+      (turn.laws.passes s c (lba y.at) b bytes (Syncing y) (Syncing (record y { at = b.0 })) (Syncing (behind y (b.0 + 1))) turn.is owed may_pass may clean)
       refl refl (hardened_duty (capacity s) (passed_state s c (lba y.at) b) c b (Syncing (record y { at = b.0 })) (Syncing (behind y (b.0 + 1))) passed may)
       (put_at-own c (window_after c (s.windows c) (beat (Work c) (Passed c (lba y.at) b ∷ Harden (Command c) b ∷ []) (op_of s b bytes ∷ []))) s.windows
       ∙ ap (λ (t : Bool). cond (t || false) [] (s.windows c ++ op_of s b bytes ∷ [])) (eq-eqb c c refl))

@@ -43,7 +43,6 @@ use Rattle.drive_core.specs.Hardening.{MayHardenFor, passed_to, done_before}
 use Rattle.drive_core.specs.Moves.{Moves, MayWork, Leaves}
 use Rattle.drive_core.specs.Syncing.{Needs}
 use Rattle.drive_scene.specs.Half.{Half}
-use Rattle.drive_scene.proofs.Halves.{ends}
 use Rattle.drive_scene.proofs.Elsewhere.{after_end}
 use Rattle.drive_core.proofs.Fitting.{fits_end}
 use Rattle.drive_core.proofs.Parts.{IsGotOnly, cached_got, quiet_got}
@@ -52,7 +51,7 @@ use Rattle.drive_core.proofs.Closing.{Stops, moves_end}
 use Rattle.drive_core.proofs.FirstDirty.{IsFirstDirty, least_of_cache, first_dirty-is, none_of_cache, none_dirty-before, within_there}
 use Rattle.drive_core.proofs.MetMoves.{owed_is}
 use Rattle.drive_scene.specs.Kinds.{passed_state}
-use Rattle.drive_scene.proofs.PassTurns.{half_passed}
+use Rattle.drive_scene.specs.Laws.{HalvesAreGood, PassesAreHalves}
 use Rattle.drive_core.proofs.SyncMoves.{next-passed, next-synced}
 use Rattle.drive_core.proofs.TakeTurns.{GivenBy, given_by, WorksAt, works_at, StandsAt, stands_in}
 use Rattle.drive_core.proofs.Hardens.{stops_of}
@@ -146,14 +145,14 @@ not_below n = by (ltb n n) refl
 
 -- where no block of the rest of the range is dirty, the sync ends
 pub passes_all : (s : Scene) (d mid e : Server) (c : ℕ) (from to : Lba) (entries : List Entry) (reply : Option Reply) (told : Option told_end.Ended)
-    → MayWork s d c → Needs d.commands.items c (need.Pass from to) → dirty_within from to d.store.cache ≡ [] → mid.store ≡ d.store → mid.set ≡ d.set
+    → HalvesAreGood → PassesAreHalves → MayWork s d c → Needs d.commands.items c (need.Pass from to) → dirty_within from to d.store.cache ≡ [] → mid.store ≡ d.store → mid.set ≡ d.set
     → mid.arrived ≡ d.arrived → mid.known ≡ d.known
     → ((w : Course) → under_way d.commands.items c ≡ Some w → reply ≡ ending_of (after w (NextDirty None)))
     → ((a : Accepted) (w : Course) → accepted_of d.commands.items c ≡ Some a → a.work ≡ Some w
     → Replaces d.commands.items mid.commands.items c (record a { work = Some (after w (NextDirty None)) }))
     → ((x : Reply) → reply ≡ Some x → Leaves mid e c × (entries ≡ Passed c from to ∷ Ended c x ∷ []) × (told ≡ ended_of_member (member_of mid.set c) x))
     → Moves (Work c) s d e entries told
-passes_all s d mid e c from to entries reply told may needs none store set arrived known reply_is replaces closes =
+passes_all s d mid e c from to entries reply told halves passes may needs none store set arrived known reply_is replaces closes =
     let fits : Fits s d = may.fits in
     let given : GivenBy need_of (under_way d.commands.items c) (need.Pass from to) = given_by need_of (under_way d.commands.items c) (need.Pass from to) needs in
     let w : Course = given.x in
@@ -168,7 +167,7 @@ passes_all s d mid e c from to entries reply told may needs none store set arriv
     let clean : none_dirty s.hist.blocks from.0 to.0 ≡ true =
     none_dirty-before s.hist.blocks from.0 to.0 (none_of_cache s.hist.blocks d.store.cache from to fits.cached.dirty none) in
     let half : Half s c [] (Passed c from to ∷ []) (passed_state s c from to) (Syncing (record pass.y { at = to.0 })) =
-    half_passed s c from to (Syncing pass.y) (Syncing (record pass.y { at = to.0 })) fits.stands
+    passes s c from to (Syncing pass.y) (Syncing (record pass.y { at = to.0 })) fits.stands
     (owed_is s c stands.m w.plan stands.is_in stands.working.owes ∙ ap Some pass.plan_is)
     (next-passed pass.y from to from_is (omega (arith, to_is, pass.left)) (omega (arith, to_is))) (omega (arith, to_is, range)) clean in
     let over : reply ≡ Some good =
@@ -184,7 +183,7 @@ passes_all s d mid e c from to entries reply told may needs none store set arriv
     let got : IsGotOnly s (after_end s c [] (Passed c from to ∷ []) good) =
     quiet_got s (after_end s c [] (Passed c from to ∷ []) good) (Passed c from to ∷ Ended c good ∷ []) refl refl refl refl refl refl refl in
     moves_end s c [] (Passed c from to ∷ []) entries (passed_state s c from to) (Syncing (record pass.y { at = to.0 })) d e good told half
-    (ends s c [] (Passed c from to ∷ []) (passed_state s c from to) (Syncing (record pass.y { at = to.0 })) Over good (room_of s c d fits) (present_still s fits.store.present) half
+    (halves.over s c [] (Passed c from to ∷ []) (passed_state s c from to) (Syncing (record pass.y { at = to.0 })) Over good (room_of s c d fits) (present_still s fits.store.present) half refl
     (next-synced (record pass.y { at = to.0 }) (names_dirty (passed_state s c from to) good) to_is) refl (λ more. absurd (omega (arith, more, to_is))))
     (fits_end s c [] (Passed c from to ∷ []) (passed_state s c from to) (Syncing (record pass.y { at = to.0 })) good d e half fits stops.left
     (has_same s d e fits kept t refl refl)

@@ -14,6 +14,7 @@ use Rattle.sector_store.specs.Stored.{KeepsBlocks}
 use Rattle.sector_store.specs.State.{Contained, IsStore}
 use Rattle.geometry_map.specs.Laws.{BlocksHaveOwnSectors}
 use Rattle.drive_scene.specs.Ending.{ended_of_member}
+use Rattle.drive_core.proofs.Taken.{ReadLaws}
 use Rattle.drive_core.proofs.AtBlock.{at_block}
 use Rattle.drive_core.proofs.Windows.{empty_tried}
 use Rattle.drive_scene.proofs.Gets.{newest_undirty}
@@ -38,7 +39,6 @@ use Rattle.command_engine.specs.Need.{need_by, need_at_read, taking}
 use Rattle.command_engine.specs.Ending.{ending_of}
 use Rattle.command_engine.specs.Standing.{IsCourse}
 use Rattle.command_engine.specs.Answers.{after}
-use Rattle.command_engine.specs.Laws.{EndsByThePlan}
 use Rattle.block_machine.specs.declared.entry.Entry.{Entry}
 use Rattle.block_machine.specs.declared.turn.Label.TheVariants.{Work}
 use Rattle.block_machine.specs.State.{owed_by}
@@ -59,7 +59,8 @@ use Rattle.drive_core.specs.Commands.{IsStaged, IsCommand, IsUnderWay, IsWorking
 use Rattle.drive_scene.specs.Present.{IsPresentMap}
 use Rattle.drive_core.specs.Fits.{Fits}
 use Rattle.drive_core.specs.Moves.{Moves, MayWork, Leaves}
-use Rattle.drive_core.specs.Taking.{IsSought, value_got, got_entries, errand_for, may_be_dirty}
+use Rattle.sector_store.specs.Caching.{may_be_dirty}
+use Rattle.drive_core.specs.Taking.{IsTaken, search_for, value_got, got_entries, errand_for}
 use Rattle.drive_core.proofs.Closing.{Goes, Stops, present_after}
 use Rattle.drive_core.proofs.Found.{OwnPlaces, whatever, sought}
 use Rattle.drive_core.proofs.ReadTurns.{course}
@@ -188,15 +189,15 @@ owed_at s c w at =
 
 -- a turn of taking a block's value moves the drive
 pub takes : (s : Scene) (d e : Server) (c : ℕ) (q : Sought) (answer : Answer) (reply : Option Reply) (entries : List Entry) (told : Option told_end.Ended)
-    → MayWork s d c → option_map errand_of (under_way d.commands.items c) ≡ Some (errand_for q) → IsSought d.store q answer e.store
-    → IsPresentMap e.store.map e.store.platter.ops → IsCache d.store.cache → OwnPlaces s.map → KeepsOthers → EndsByThePlan
+    → MayWork s d c → option_map errand_of (under_way d.commands.items c) ≡ Some (errand_for q) → IsTaken d.store q answer e.store
+    → IsPresentMap e.store.map e.store.platter.ops → IsCache d.store.cache → OwnPlaces s.map → KeepsOthers → ReadLaws
     → ((w : Course) → under_way d.commands.items c ≡ Some w → IsCourse (after w answer))
     → ((w : Course) → under_way d.commands.items c ≡ Some w → reply ≡ ending_of (after w answer))
     → ((a : Accepted) (w : Course) → accepted_of d.commands.items c ≡ Some a → a.work ≡ Some w → reply ≡ None
     → Goes d e c (record a { work = Some (after w answer) }) (got_entries c q.b (value_got answer false)) entries told)
     → ((x : Reply) → reply ≡ Some x → Stops d e c x (got_entries c q.b (value_got answer true)) entries told)
     → Moves (Work c) s d e entries told
-takes s d e c q answer reply entries told may errand is present once own keeps law course_is reply_is goes stops =
+takes s d e c q answer reply entries told may errand is present once own keeps laws course_is reply_is goes stops =
     let given : GivenBy errand_of (under_way d.commands.items c) (errand_for q) = given_by errand_of (under_way d.commands.items c) (errand_for q) errand in
     let w : Course = given.x in
     let at : WorksAt (accepted_of d.commands.items c) given.x = works_at (accepted_of d.commands.items c) given.x given.is in
@@ -223,14 +224,14 @@ takes s d e c q answer reply entries told may errand is present once own keeps l
       present = present;
       once = once;
       keeps = keeps;
-      law = law;
+      laws = laws;
       course_is = subst (λ (x : Course). IsCourse (after x answer)) w_is (course_is w given.is);
       reply_is = reply_is w given.is ∙ ap (λ (x : Course). ending_of (after x answer)) w_is;
       goes = λ on. subst (λ (x : Course). Goes d e c (record at.a { work = Some (after x answer) }) (got_entries c (lba value.r.at) (value_got answer false)) entries told) w_is
           (subst (λ (b : Lba). Goes d e c (record at.a { work = Some (after w answer) }) (got_entries c b (value_got answer false)) entries told) value.b_is (goes at.a w at.is at.works on));
       stops = λ x over. subst (λ (b : Lba). Stops d e c x (got_entries c b (value_got answer true)) entries told) value.b_is (stops x over);
     })
-    (subst (λ (x : Sought). IsSought d.store x answer e.store) q_is is)
+    (subst (λ (x : Sought). IsTaken d.store x answer e.store) q_is is)
 
 -- where a turn stands: the command, and the read that it is
 pub record IsReadAt (s : Scene) (d : Server) (c : ℕ) (q : Sought) : Type 0 where
@@ -281,7 +282,7 @@ tried_clean s c r p stage trying owes next_is later unforced =
 
 -- and so nothing newer of it is in the cache
 undirty_cached : (s : Scene) (d : Server) (c : ℕ) (q : Sought) → MayWork s d c → option_map errand_of (under_way d.commands.items c) ≡ Some (errand_for q)
-    → q.medium ≡ false → may_be_dirty q ≡ false → newest q.b d.store.cache ≡ None
+    → q.medium ≡ false → may_be_dirty (search_for q) ≡ false → newest q.b d.store.cache ≡ None
 undirty_cached s d c q may errand cached later =
     let at : IsReadAt s d c q = read_at s d c q may.fits errand in
     let value : NeedsValue at.w.plan at.w.step q.b q.medium q.stage = at.value in
@@ -297,7 +298,7 @@ undirty_cached s d c q may errand cached later =
 
 -- nor is it where the value comes from the medium, or was tried already
 pub undirty : (s : Scene) (d : Server) (c : ℕ) (q : Sought) → MayWork s d c → option_map errand_of (under_way d.commands.items c) ≡ Some (errand_for q)
-    → (q.medium ≡ true → newest q.b d.store.cache ≡ None) → may_be_dirty q ≡ false → newest q.b d.store.cache ≡ None
+    → (q.medium ≡ true → newest q.b d.store.cache ≡ None) → may_be_dirty (search_for q) ≡ false → newest q.b d.store.cache ≡ None
 undirty s d c q may errand clean later = ⊎_elim (λ medium. clean medium) (λ cached. undirty_cached s d c q may errand cached later) (cases_Bool q.medium)
 
 -- a turn of taking a block's value, as it is made: sought, answered, noted, and concluded
@@ -310,14 +311,17 @@ same_store : (mid e : Server) (c : ℕ) (reply : Option Reply) (noted entries : 
 same_store mid e c None noted entries told is = ap (λ (x : Server). x.store) (is.goes refl).0
 same_store mid e c (Some x) noted entries told is = (is.ends x refl).0.store
 
-sought_map : (old new : Contained) (q : Sought) (answer : Answer) → IsSought old q answer new → new.map ≡ old.map
-sought_map old new q answer is = ⊎_elim (λ looked. ap (λ (x : Contained). x.map) looked.after) (λ tried. tried.map) is
+sought_map : (old new : Contained) (q : Sought) (answer : Answer) → IsTaken old q answer new → new.map ≡ old.map
+sought_map old new q answer is = ⊎_elim (λ looked. ap (λ (x : Contained). x.map) looked.after) (λ tried. ap (λ (x : Contained). x.map) tried.1.after) is.sought
+
+sought_ready : (old new : Contained) (q : Sought) (answer : Answer) → IsTaken old q answer new → new.ready ≡ old.ready
+sought_ready old new q answer is = ⊎_elim (λ looked. ap (λ (x : Contained). x.ready) looked.after) (λ tried. ap (λ (x : Contained). x.ready) tried.1.after) is.sought
 
 pub take_moves : (s : Scene) (d mid e : Server) (c : ℕ) (q : Sought) (answer : Answer) (reply : Option Reply) (noted entries : List Entry) (told : Option told_end.Ended)
-    → MayWork s d c → option_map errand_of (under_way d.commands.items c) ≡ Some (errand_for q) → IsSought d.store q answer mid.store
-    → IsStore mid.store → KeepsBlocks mid.store.map mid.store.platter.ops mid.store.platter.ops
-    → (mid.store.map.number < 2 ^ 63 → MayBeRecovered mid.store.map.size mid.store.platter.ops mid.store.map)
-    → IsCache d.store.cache → BlocksHaveOwnSectors → KeepsOthers → EndsByThePlan
+    → MayWork s d c → option_map errand_of (under_way d.commands.items c) ≡ Some (errand_for q) → IsTaken d.store q answer mid.store
+    → IsStore mid.store → (mid.store.ready ≡ true → KeepsBlocks mid.store.map mid.store.platter.ops mid.store.platter.ops)
+    → (mid.store.ready ≡ true → mid.store.map.number < 2 ^ 63 → MayBeRecovered mid.store.map.size mid.store.platter.ops mid.store.map)
+    → IsCache d.store.cache → BlocksHaveOwnSectors → KeepsOthers → ReadLaws
     → ((w : Course) → under_way d.commands.items c ≡ Some w → IsCourse (after w answer))
     → ((w : Course) → under_way d.commands.items c ≡ Some w → reply ≡ ending_of (after w answer))
     → mid.set ≡ d.set → mid.arrived ≡ d.arrived → mid.known ≡ d.known
@@ -325,15 +329,15 @@ pub take_moves : (s : Scene) (d mid e : Server) (c : ℕ) (q : Sought) (answer :
     → Replaces d.commands.items mid.commands.items c (record a { work = Some (after w answer) }))
     → noted ≡ got_entries c q.b (value_got answer (is_some reply)) → IsConcluded mid e c reply noted entries told
     → Moves (Work c) s d e entries told
-take_moves s d mid e c q answer reply noted entries told may errand is store finds may_be once apart keeps law course_is reply_is set_is arrived_is known_is replaces noted_is concluded =
+take_moves s d mid e c q answer reply noted entries told may errand is store finds may_be once apart keeps laws course_is reply_is set_is arrived_is known_is replaces noted_is concluded =
     let at : IsReadAt s d c q = read_at s d c q may.fits errand in
     let same : e.store ≡ mid.store = same_store mid e c reply noted entries told concluded in
     let present : IsPresentMap mid.store.map mid.store.platter.ops =
-    present_after s d.store mid.store may.fits.store (sought_map d.store mid.store q answer is) store finds may_be in
+    present_after s d.store mid.store may.fits.store (sought_map d.store mid.store q answer is) (sought_ready d.store mid.store q answer is) store finds may_be in
     takes s d e c q answer reply entries told may errand
-    (subst (λ (x : Contained). IsSought d.store q answer x) (sym same) is)
+    (subst (λ (x : Contained). IsTaken d.store q answer x) (sym same) is)
     (subst (λ (x : Contained). IsPresentMap x.map x.platter.ops) (sym same) present)
-    once (λ b k. apart s.map may.fits.store.present.there.valid b k) keeps law course_is reply_is
+    once (λ b k. apart s.map may.fits.store.present.there.valid b k) keeps laws course_is reply_is
     (λ a w a_is works on.
     let went = concluded.goes on in
     record {

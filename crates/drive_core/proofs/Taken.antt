@@ -1,7 +1,7 @@
 -- A turn of a read moves the parts of a drive, whatever it finds.
 use Rattle.std.proofs.Common.{◌≡◌, ℕ, ◌+◌, ◌<◌, Bool, true, false, not, cond, eqb, ltb, List, [], ◌∷◌, ◌++◌, length, Option, Some, None, refl, sym, ap, ◌∙◌, subst, arith, ⊎_elim, ◌⊎◌}
 use Rattle.std.specs.Prelude.{◌&&◌}
-use Rattle.std.specs.Option.{is_none}
+use Rattle.std.specs.Option.{is_none, option_and_then}
 use Rattle.std.proofs.lemmas.Bool.{lt-ltb, ltb-true, ltb-false, or_right, cases_Bool, cases_eq}
 use Rattle.disk_base.specs.At.{put_at}
 use Rattle.disk_base.specs.declared.address.Lba.{Lba}
@@ -15,7 +15,7 @@ use Rattle.sense_data.specs.declared.reply.Reply.{Reply}
 use Rattle.geometry_map.specs.DefectMap.{place_of}
 use Rattle.task_set.specs.declared.member.Member.{Member}
 use Rattle.task_set.specs.Members.{member_of}
-use Rattle.read_recovery.specs.Stages.{Progress, begun, next_stage, answered}
+use Rattle.read_recovery.specs.Stages.{Progress, begun, next_stage, answered, stages_of}
 use Rattle.sector_store.specs.Shapes.{try_of}
 use Rattle.sector_store.specs.Stored.{stored}
 use Rattle.cdb_reader.specs.Replies.{unrecovered_read}
@@ -48,26 +48,27 @@ use Rattle.drive_core.specs.declared.server.Server.{Server}
 use Rattle.drive_scene.specs.declared.answer.Ended as told_end
 use Rattle.drive_scene.specs.Scene.{Scene, capacity, last_found, beat}
 use Rattle.drive_scene.specs.Holds.{held_by_plan, holder_besides}
-use Rattle.drive_scene.specs.Evidence.{lba, IsEndShown, IsGotShown}
+use Rattle.drive_scene.specs.Evidence.{lba, IsEndShown, IsGot, IsNextTry, FailedBelow}
 use Rattle.drive_scene.specs.View.{view}
-use Rattle.drive_core.specs.Commands.{IsWorking, IsOwnRecovery}
+use Rattle.drive_core.specs.Commands.{IsWorking, IsOwnRecovery, IsTrying}
 use Rattle.drive_scene.specs.Present.{IsPresentMap}
 use Rattle.drive_core.specs.Fits.{HasOps, IsCached, Fits}
 use Rattle.drive_core.specs.Moves.{Moves}
 use Rattle.drive_scene.proofs.Tables.{put_at-own, put_at-other}
 use Rattle.drive_scene.proofs.Gets.{is_dirty-after_get, newest-after_get}
-use Rattle.drive_scene.proofs.Tries.{no_strays-before}
+use Rattle.drive_scene.proofs.Tries.{no_strays-before, one_left, failed-next, next_stage-at}
 use Rattle.drive_core.proofs.Parts.{IsGotOnly}
 use Rattle.drive_scene.specs.Half.{Half}
-use Rattle.drive_scene.proofs.Halves.{goes_on, ends}
 use Rattle.drive_scene.proofs.Apart.{holds_none, holds_next}
 use Rattle.drive_scene.proofs.Elsewhere.{after_half, after_end}
 use Rattle.drive_core.proofs.Fitting.{fits_on, fits_end}
 use Rattle.drive_core.proofs.Closing.{Goes, Stops, may_end, told_report, moves_on, moves_end}
 use Rattle.drive_scene.specs.Kinds.{AreQuietAt, got_state}
-use Rattle.drive_scene.proofs.GetTurns.{half_none, half_got}
+use Rattle.drive_scene.specs.Laws.{HalvesAreGood, TriesAreHalves, GetsAreHalves}
 use Rattle.drive_core.proofs.ReadTurns.{window-got, next-got, next-lost, course, recovered-is, own-recovered, staged-got, staged-none}
 use Rattle.drive_core.proofs.Windows.{room_of}
+use Rattle.drive_scene.specs.GoodTurn.{is_try}
+use Rattle.std.specs.List.{list_any}
 
 -- a block and all others after a get
 at_block : {V : Type 0} (f : BlockState → V) (blocks_then : Blocks) (b : ℕ) (v : Value) → f (after_get (blocks_then b) v) ≡ f (blocks_then b)
@@ -114,6 +115,13 @@ tried_only s t b ops quiet present size_is map_is ops_is since_is entries_is ord
   kept = λ q. (λ i. stored (map_is i) (ops_is i) q) ∙ quiet.keeps s.map present.may_be q;
 }
 
+-- the laws by which a turn of a read is a good one
+pub record ReadLaws : Type 0 where
+  pub plan : EndsByThePlan
+  pub halves : HalvesAreGood
+  pub tries : TriesAreHalves
+  pub gets : GetsAreHalves
+
 -- what a turn of a read begins with, and what it leaves of the store
 pub record IsReadTurn (s : Scene) (d e : Server) (c : ℕ) (m : Member) (w : Course) (b : Lba) (ops : List Op) : Type 0 where
   pub fits : Fits s d
@@ -126,7 +134,7 @@ pub record IsReadTurn (s : Scene) (d e : Server) (c : ℕ) (m : Member) (w : Cou
   pub present : IsPresentMap s.map (s.ops ++ ops)
   pub has : (t : Scene) → t.map ≡ s.map → t.ops ≡ s.ops ++ ops → HasOps t e.store
   pub cached : (t : Scene) → IsGotOnly s t → t.ops ≡ s.ops ++ ops → t.since ≡ s.since ++ ops → IsCached t e.store.cache
-  pub law : EndsByThePlan
+  pub laws : ReadLaws
 
 module _ (s : Scene) (c : ℕ) (m : Member) (settings : Settings) (gives : Bool) (r : reading.Reading) (p : Progress) (rec : Option Recovery) (stage : Stage) where
   -- the command gets data
@@ -135,7 +143,7 @@ module _ (s : Scene) (c : ℕ) (m : Member) (settings : Settings) (gives : Bool)
       → (r.through && is_dirty (s.hist.blocks r.at)) ≡ false
       → (strays (s.ops ++ ops) ≡ 0 → may_get (s.hist.blocks r.at) (Data bytes) ≡ true)
       → (strays (s.ops ++ ops) ≡ 0 → is_dirty (s.hist.blocks r.at) ≡ false → Data bytes ≡ stored s.map s.ops (lba r.at))
-      → ((es : List Entry) → is_dirty (s.hist.blocks r.at) ≡ false → IsGotShown s (beat (Work c) es ops) (steps.begun s.hist (Work c)) c (lba r.at) (Data bytes))
+      → IsGot s (s.windows c ++ ops) (s.settings c) (steps.begun s.hist (Work c)) c (lba r.at) (Data bytes)
       → (last_found (s.windows c ++ ops) ≡ Some stage) ⊎ ((last_found (s.windows c ++ ops) ≡ None) × (stage.number ≡ 0))
       → IsCourse (after (course s c m settings gives r p rec stage) (Got (Data bytes)))
       → reply ≡ ending_of (after (course s c m settings gives r p rec stage) (Got (Data bytes)))
@@ -145,7 +153,7 @@ module _ (s : Scene) (c : ℕ) (m : Member) (settings : Settings) (gives : Bool)
   got_data d e a bytes ops entries reply told turn next_is left clean allows is shown by course_is reply_is goes stops =
       let next_plan : Plan = Reading (record r { at = r.at + 1; hardened = false }) in
       let half : Half s c ops (Get c (lba r.at) (Data bytes) ∷ []) (got_state s c (lba r.at) (Data bytes)) (Reading (record r { at = r.at + 1; hardened = false })) =
-      half_got s c m (Reading r) (Reading (record r { at = r.at + 1; hardened = false })) (lba r.at) (Data bytes) ops turn.is_in turn.working.owes turn.below
+      turn.laws.gets s c m (Reading r) (Reading (record r { at = r.at + 1; hardened = false })) (lba r.at) (Data bytes) ops turn.is_in turn.working.owes turn.below
       turn.fits.store.present turn.fits.stands turn.free turn.quiet (next-got r bytes (is_dirty (s.hist.blocks r.at)) left clean) allows
       (λ none ys same undirty. is none undirty) shown in
       ⊎_elim
@@ -156,7 +164,7 @@ module _ (s : Scene) (c : ℕ) (m : Member) (settings : Settings) (gives : Bool)
       let got : Goes d e c (record a { work = Some (after (course s c m settings gives r p rec stage) (Got (Data bytes))) }) (Get c (lba r.at) (Data bytes) ∷ []) entries told = goes on in
       moves_on s c ops (Get c (lba r.at) (Data bytes) ∷ []) entries (got_state s c (lba r.at) (Data bytes)) (Reading (record r { at = r.at + 1; hardened = false })) d e
       (record a { work = Some (after (course s c m settings gives r p rec stage) (Got (Data bytes))) }) told half
-      (goes_on s c ops (Get c (lba r.at) (Data bytes) ∷ []) (got_state s c (lba r.at) (Data bytes)) (Reading (record r { at = r.at + 1; hardened = false })) (room_of s c d turn.fits) turn.present half refl
+      (turn.laws.halves.on s c ops (Get c (lba r.at) (Data bytes) ∷ []) (got_state s c (lba r.at) (Data bytes)) (Reading (record r { at = r.at + 1; hardened = false })) (room_of s c d turn.fits) turn.present half (or_right (not (list_any is_try ops)) true refl) refl
       (or_right (not (eqb (length ops) 0)) true refl))
       (fits_on s c ops (Get c (lba r.at) (Data bytes) ∷ []) (got_state s c (lba r.at) (Data bytes)) (Reading (record r { at = r.at + 1; hardened = false })) d e
       (record a { work = Some (after (course s c m settings gives r p rec stage) (Got (Data bytes))) }) half turn.fits got.set got.arrived got.known got.replaces
@@ -185,8 +193,8 @@ module _ (s : Scene) (c : ℕ) (m : Member) (settings : Settings) (gives : Bool)
         λ more. absurd (omega (arith, ltb-false (r.at + 1) r.end last)),
       ) in
       moves_end s c ops (Get c (lba r.at) (Data bytes) ∷ []) entries (got_state s c (lba r.at) (Data bytes)) (Reading (record r { at = r.at + 1; hardened = false })) d e x told half
-      (ends s c ops (Get c (lba r.at) (Data bytes) ∷ []) (got_state s c (lba r.at) (Data bytes)) (Reading (record r { at = r.at + 1; hardened = false })) Over x (room_of s c d turn.fits) turn.present half
-      (may_end (after (course s c m settings gives r p rec stage) (Got (Data bytes))) x (names_dirty (got_state s c (lba r.at) (Data bytes)) x) turn.law course_is
+      (turn.laws.halves.over s c ops (Get c (lba r.at) (Data bytes) ∷ []) (got_state s c (lba r.at) (Data bytes)) (Reading (record r { at = r.at + 1; hardened = false })) Over x (room_of s c d turn.fits) turn.present half (or_right (not (list_any is_try ops)) true refl)
+      (may_end (after (course s c m settings gives r p rec stage) (Got (Data bytes))) x (names_dirty (got_state s c (lba r.at) (Data bytes)) x) turn.laws.plan course_is
       (sym reply_is ∙ over) (λ never. absurd (cc)) refl)
       told_so shown_so)
       (fits_end s c ops (Get c (lba r.at) (Data bytes) ∷ []) (got_state s c (lba r.at) (Data bytes)) (Reading (record r { at = r.at + 1; hardened = false })) x d e half turn.fits ended.left
@@ -199,7 +207,7 @@ module _ (s : Scene) (c : ℕ) (m : Member) (settings : Settings) (gives : Bool)
   pub got_lost : (d e : Server) (answer : Answer) (ops : List Op) (entries : List Entry) (reply : Option Reply) (told : Option told_end.Ended)
       → IsReadTurn s d e c m (course s c m settings gives r p rec stage) (lba r.at) ops → r.at < r.end → (r.through && is_dirty (s.hist.blocks r.at)) ≡ false
       → (strays (s.ops ++ ops) ≡ 0 → may_get (s.hist.blocks r.at) Lost ≡ true)
-      → ((es : List Entry) → is_dirty (s.hist.blocks r.at) ≡ false → IsGotShown s (beat (Work c) es ops) (steps.begun s.hist (Work c)) c (lba r.at) Lost)
+      → IsGot s (s.windows c ++ ops) (s.settings c) (steps.begun s.hist (Work c)) c (lba r.at) Lost
       → IsCourse (after (course s c m settings gives r p rec stage) answer)
       → (after (course s c m settings gives r p rec stage) answer).plan ≡ Unread r.at
       → reply ≡ ending_of (after (course s c m settings gives r p rec stage) answer)
@@ -209,7 +217,7 @@ module _ (s : Scene) (c : ℕ) (m : Member) (settings : Settings) (gives : Bool)
       let next_course : Course = after (course s c m settings gives r p rec stage) answer in
       let x : Reply = unrecovered_read r.at in
       let half : Half s c ops (Get c (lba r.at) Lost ∷ []) (got_state s c (lba r.at) Lost) (Unread r.at) =
-      half_got s c m (Reading r) (Unread r.at) (lba r.at) Lost ops turn.is_in turn.working.owes turn.below
+      turn.laws.gets s c m (Reading r) (Unread r.at) (lba r.at) Lost ops turn.is_in turn.working.owes turn.below
       turn.fits.store.present turn.fits.stands turn.free turn.quiet (next-lost r (is_dirty (s.hist.blocks r.at)) left clean) allows
       (λ none ys same undirty. absurd (cc)) shown in
       let over : reply ≡ Some (unrecovered_read r.at) = reply_is
@@ -220,11 +228,11 @@ module _ (s : Scene) (c : ℕ) (m : Member) (settings : Settings) (gives : Bool)
       λ q step dirty is stays. let no : stays_dirty (Unread r.at) step ≡ true = subst (λ (z : Plan). stays_dirty z step ≡ true) is stays in absurd (cc) in
       let may : next (Unread r.at) (deed.Ended (unrecovered_read r.at) (names_dirty (got_state s c (lba r.at) Lost) (unrecovered_read r.at))) ≡ Some Over =
       subst (λ (q : Plan). next q (deed.Ended (unrecovered_read r.at) (names_dirty (got_state s c (lba r.at) Lost) (unrecovered_read r.at))) ≡ Some Over) plan_is
-      (may_end (after (course s c m settings gives r p rec stage) answer) (unrecovered_read r.at) (names_dirty (got_state s c (lba r.at) Lost) (unrecovered_read r.at)) turn.law course_is
+      (may_end (after (course s c m settings gives r p rec stage) answer) (unrecovered_read r.at) (names_dirty (got_state s c (lba r.at) Lost) (unrecovered_read r.at)) turn.laws.plan course_is
       (sym reply_is ∙ over) (never_dirty (after (course s c m settings gives r p rec stage) answer).plan (after (course s c m settings gives r p rec stage) answer).step _ plan_is)
       (subst (λ (q : Plan). with_page [] q ≡ q) (sym plan_is) refl)) in
       moves_end s c ops (Get c (lba r.at) Lost ∷ []) entries (got_state s c (lba r.at) Lost) (Unread r.at) d e (unrecovered_read r.at) told half
-      (ends s c ops (Get c (lba r.at) Lost ∷ []) (got_state s c (lba r.at) Lost) (Unread r.at) Over (unrecovered_read r.at) (room_of s c d turn.fits) turn.present half may refl tt)
+      (turn.laws.halves.over s c ops (Get c (lba r.at) Lost ∷ []) (got_state s c (lba r.at) Lost) (Unread r.at) Over (unrecovered_read r.at) (room_of s c d turn.fits) turn.present half (or_right (not (list_any is_try ops)) true refl) may refl tt)
       (fits_end s c ops (Get c (lba r.at) Lost ∷ []) (got_state s c (lba r.at) Lost) (Unread r.at) (unrecovered_read r.at) d e half turn.fits ended.left
       (turn.has t refl refl)
       (turn.cached t (got_only s t (lba r.at) Lost ops (Get c (lba r.at) Lost ∷ Ended c (unrecovered_read r.at) ∷ []) turn.quiet turn.present refl refl refl refl refl refl refl) refl refl))
@@ -237,21 +245,33 @@ module _ (s : Scene) (c : ℕ) (m : Member) (settings : Settings) (gives : Bool)
       → reply ≡ ending_of (after (course s c m settings gives r p rec stage) Missed)
       → (reply ≡ None → Goes d e c (record a { work = Some (after (course s c m settings gives r p rec stage) Missed) }) [] entries told)
       → Moves (Work c) s d e entries told
-  missed d e a before entries reply told turn next_is left undirty one_left reply_is goes =
+  missed d e a before entries reply told turn next_is left undirty one_left_so reply_is goes =
       let ops : List Op = try_of before (place_of s.map (lba r.at)) stage None in
       let half : Half s c (try_of before (place_of s.map (lba r.at)) stage None) [] (steps.begun s.hist (Work c)) (Reading r) =
-      half_none s c m (Reading r) (lba r.at) (try_of before (place_of s.map (lba r.at)) stage None) turn.is_in turn.working.owes
+      turn.laws.tries s c m (Reading r) (lba r.at) (try_of before (place_of s.map (lba r.at)) stage None) turn.is_in turn.working.owes
       turn.fits.store.present turn.fits.stands turn.free turn.quiet in
       let on : reply ≡ None = reply_is
-      ∙ (ap (λ (b : Bool). ending_by (cond b (Unread r.at) (Reading r)) (cond b (Trying (begun settings.retry)) (Trying (answered p false))) rec) one_left
+      ∙ (ap (λ (b : Bool). ending_by (cond b (Unread r.at) (Reading r)) (cond b (Trying (begun settings.retry)) (Trying (answered p false))) rec) one_left_so
       ∙ ap (λ (b : Bool). cond b None (Some (report_of r.reports rec))) (lt-ltb r.at r.end left)) in
+      let trying : IsTrying (view s c) r p = turn.working.at_block in
+      let here = next_stage-at p stage next_is in
+      let next_try : IsNextTry s c (try_of before (place_of s.map (lba r.at)) stage None) = (
+        r,
+        p.failed + 1,
+        ap (λ (o : Option Member). option_and_then (λ (x : Member). (s.hist.duties c).owes) o) turn.is_in ∙ turn.working.owes,
+        left,
+        undirty,
+        subst (λ (n : ℕ). p.failed + 1 < length (stages_of n)) trying.retry (one_left p here.0 one_left_so),
+        subst (λ (n : ℕ). FailedBelow (s.windows c ++ try_of before (place_of s.map (lba r.at)) stage None) (place_of s.map (lba r.at)) n (p.failed + 1)) trying.retry
+            (failed-next (s.windows c) before (place_of s.map (lba r.at)) p.retry p.failed stage here.1 trying.failed),
+      ) in
       let t : Scene = after_half s c (try_of before (place_of s.map (lba r.at)) stage None) [] in
       let got : Goes d e c (record a { work = Some (after (course s c m settings gives r p rec stage) Missed) }) [] entries told = goes on in
       moves_on s c ops [] entries (steps.begun s.hist (Work c)) (Reading r) d e (record a { work = Some (after (course s c m settings gives r p rec stage) Missed) }) told half
-      (goes_on s c ops [] (steps.begun s.hist (Work c)) (Reading r) (room_of s c d turn.fits) turn.present half refl refl)
+      (turn.laws.halves.on s c ops [] (steps.begun s.hist (Work c)) (Reading r) (room_of s c d turn.fits) turn.present half next_try refl refl)
       (fits_on s c ops [] (steps.begun s.hist (Work c)) (Reading r) d e (record a { work = Some (after (course s c m settings gives r p rec stage) Missed) }) half turn.fits
       got.set got.arrived got.known got.replaces (turn.has t refl refl)
       (turn.cached t (tried_only s t (lba r.at) ops turn.quiet turn.present refl refl refl refl refl refl refl) refl refl)
-      (staged-none s c m settings gives r p rec stage a before turn.is_in turn.working next_is undirty one_left)
+      (staged-none s c m settings gives r p rec stage a before turn.is_in turn.working next_is undirty one_left_so)
       (holds_next s c (t.windows c) r turn.free))
       got turn.added refl

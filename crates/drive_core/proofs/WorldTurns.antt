@@ -1,7 +1,6 @@
 -- Turns in which damage comes, and in which minutes pass.
-use Rattle.std.proofs.Common.{◌≡◌, ℕ, ◌+◌, ◌<◌, Bool, false, cond, List, [], ◌∷◌, ◌++◌, None, refl, sym, ap, ◌∙◌, subst, arith}
+use Rattle.std.proofs.Common.{◌≡◌, ℕ, ◌+◌, ◌<◌, Bool, true, false, cond, List, [], ◌∷◌, ◌++◌, None, refl, sym, ap, ◌∙◌, subst, arith}
 use Rattle.std.specs.Prelude.{◌^◌, min}
-use Rattle.std.proofs.lemmas.List.Elements.{All-nil, All-from_recursion}
 use Rattle.std.proofs.lemmas.List.Sums.{fold-append}
 use Rattle.platter_model.specs.declared.damage.Damage.{Damage}
 use Rattle.platter_model.specs.declared.op.Op.{Op}
@@ -25,9 +24,9 @@ use Rattle.drive_core.specs.declared.accepted.Accepted.{Accepted}
 use Rattle.drive_core.specs.declared.server.Server.{Server}
 use Rattle.drive_scene.specs.Scene.{Scene, scene_after, beat}
 use Rattle.drive_core.specs.Accepting.{accepted_of}
-use Rattle.drive_scene.specs.Evidence.{lba}
-use Rattle.drive_scene.specs.GoodTurn.{IsStood, IsAllowed, WritesBlockData}
+use Rattle.drive_scene.specs.GoodTurn.{IsStood, IsAllowed}
 use Rattle.drive_scene.specs.Present.{IsPresentMap}
+use Rattle.drive_scene.specs.Laws.{StillTurnsAreGood, DamageTurnsAreGood}
 use Rattle.drive_core.specs.Fits.{Fits, HasOps, IsCached, KnowsHistory}
 use Rattle.drive_core.specs.Moves.{Moves}
 use Rattle.drive_core.specs.Served.{IsServedWorld}
@@ -37,7 +36,7 @@ use Rattle.drive_core.proofs.Parts.{IsGotOnly, cached_got, quiet_got}
 use Rattle.drive_core.proofs.Fitting.{known-quiet}
 use Rattle.drive_core.proofs.Closing.{has_ops, present_after}
 use Rattle.drive_core.proofs.Unmoved.{still_stands, has_same, none_added, standing}
-use Rattle.drive_scene.proofs.Still.{good_still, good_damage}
+use Rattle.drive_scene.specs.Still.{IsStanding}
 
 -- a damage of what is served may happen to the store
 pub may_happen : (s : Scene) (d : Server) (x : Damage) → Fits s d → d.store.platter.sectors ≡ total_of d.store.map.size → IsServedWorld s.size (world.Damage x)
@@ -69,11 +68,14 @@ untouched s d e ops entries scan fits set_is commands_is arrived_is store cached
   stands = stands;
 }
 
-damages : (s : Scene) (d e : Server) (x : Damage) → Fits s d → e.store ≡ record d.store { platter = with_op d.store.platter (Damaged x) }
+standing_now : (s : Scene) (d : Server) → Fits s d → IsStanding s
+standing_now s d fits = record { powered = fits.store.powered; present = fits.store.present; stands = fits.stands }
+
+damages : (s : Scene) (d e : Server) (x : Damage) → DamageTurnsAreGood → Fits s d → e.store ≡ record d.store { platter = with_op d.store.platter (Damaged x) }
     → e.set ≡ d.set → e.commands.items ≡ d.commands.items → e.arrived ≡ d.arrived → e.known ≡ d.known
     → KeepsBlocks d.store.map d.store.platter.ops e.store.platter.ops → IsPresentMap e.store.map e.store.platter.ops
     → Moves (label.World (world.Damage x)) s d e [] None
-damages s d e x fits store_is set_is commands_is arrived_is known_is keeps present =
+damages s d e x damage fits store_is set_is commands_is arrived_is known_is keeps present =
     let ops : List Op = Damaged x ∷ [] in
     let t : Scene = scene_after s (beat (label.World (world.Damage x)) [] (Damaged x ∷ [])) in
     let added : e.store.platter.ops ≡ d.store.platter.ops ++ Damaged x ∷ [] = ap (λ (y : Contained). y.platter.ops) store_is in
@@ -104,9 +106,10 @@ damages s d e x fits store_is set_is commands_is arrived_is known_is keeps prese
     record {
       ops = Damaged x ∷ [];
       added = added;
-      good = good_damage s x (record { present = fits.store.present; stands = fits.stands }) fits.windows kept here;
+      good = damage s x (standing_now s d fits) fits.windows kept here;
       fits = untouched s d e (Damaged x ∷ []) [] s.hist.scan fits set_is commands_is arrived_is
-          (has_ops s t d.store e.store (Damaged x ∷ []) fits.store refl refl map_is added (ap (λ (y : Contained). y.platter.armed) store_is) off
+          (has_ops s t d.store e.store (Damaged x ∷ []) fits.store refl refl map_is added (ap (λ (y : Contained). y.platter.armed) store_is)
+          (ap (λ (y : Contained). y.ready) store_is) off
           (λ q. fold-append (faulty_after q) false s.ops (Damaged x ∷ [])) present)
           (subst (λ (y : Contained). IsCached t y.cache) (sym store_is) (cached_got s t d.store.cache got fits.cached))
           (subst (λ k. KnowsHistory t k) (sym known_is) (known-quiet s t d.known refl refl refl refl refl fits.known)) stands;
@@ -115,30 +118,31 @@ damages s d e x fits store_is set_is commands_is arrived_is known_is keeps prese
     }
 
 -- damage comes, and the map is there after it
-pub damaged : (s : Scene) (d e : Server) (x : Damage) → Fits s d → e.store ≡ record d.store { platter = after_world d.store.platter (world.Damage x) }
+pub damaged : (s : Scene) (d e : Server) (x : Damage) → DamageTurnsAreGood → Fits s d → e.store ≡ record d.store { platter = after_world d.store.platter (world.Damage x) }
     → e.set ≡ d.set → e.commands.items ≡ d.commands.items → e.arrived ≡ d.arrived → e.known ≡ d.known
-    → KeepsBlocks d.store.map d.store.platter.ops e.store.platter.ops → IsStore e.store → KeepsBlocks e.store.map e.store.platter.ops e.store.platter.ops
-    → (e.store.map.number < 2 ^ 63 → MayBeRecovered e.store.map.size e.store.platter.ops e.store.map)
+    → (d.store.ready ≡ true → KeepsBlocks d.store.map d.store.platter.ops e.store.platter.ops) → IsStore e.store
+    → (e.store.ready ≡ true → KeepsBlocks e.store.map e.store.platter.ops e.store.platter.ops)
+    → (e.store.ready ≡ true → e.store.map.number < 2 ^ 63 → MayBeRecovered e.store.map.size e.store.platter.ops e.store.map)
     → Moves (label.World (world.Damage x)) s d e [] None
-damaged s d e x fits store_is set_is commands_is arrived_is known_is keeps store finds may =
-    damages s d e x fits store_is set_is commands_is arrived_is known_is keeps
-    (present_after s d.store e.store fits.store (ap (λ (y : Contained). y.map) store_is) store finds may)
+damaged s d e x damage fits store_is set_is commands_is arrived_is known_is keeps store finds may =
+    damages s d e x damage fits store_is set_is commands_is arrived_is known_is (keeps fits.store.ready)
+    (present_after s d.store e.store fits.store (ap (λ (y : Contained). y.map) store_is) (ap (λ (y : Contained). y.ready) store_is) store finds may)
 
 -- what is known once minutes passed
 abbrev pub later : Known → ℕ → Known
 later known n = record known { scan = record known.scan { minutes = min (known.scan.minutes + n) minutes_at_most } }
 
 -- minutes pass
-pub minutes_pass : (s : Scene) (d e : Server) (n : ℕ) (entries : List Entry) → Fits s d → e.store ≡ d.store → e.set ≡ d.set → e.commands.items ≡ d.commands.items
+pub minutes_pass : (s : Scene) (d e : Server) (n : ℕ) (entries : List Entry) → StillTurnsAreGood → Fits s d → e.store ≡ d.store → e.set ≡ d.set → e.commands.items ≡ d.commands.items
     → e.arrived ≡ d.arrived → e.known ≡ later d.known n → entries ≡ Tick n ∷ []
     → Moves (label.World (world.Minutes n)) s d e entries None
-minutes_pass s d e n entries fits store_is set_is commands_is arrived_is known_is entries_are =
+minutes_pass s d e n entries still fits store_is set_is commands_is arrived_is known_is entries_are =
     let t : Scene = scene_after s (beat (label.World (world.Minutes n)) (Tick n ∷ []) []) in
     let M : List Entry → Type 0 = λ es. Moves (label.World (world.Minutes n)) s d e es None in
     let moves : M (Tick n ∷ []) = record {
       ops = [];
       added = none_added s d e fits store_is;
-      good = good_still s (label.World (world.Minutes n)) (Tick n ∷ []) (standing s d e fits store_is) (record {
+      good = still s (label.World (world.Minutes n)) (Tick n ∷ []) (standing s d e fits store_is) (record {
         tasks = refl;
         blocks = refl;
         shown = (tt, tt);

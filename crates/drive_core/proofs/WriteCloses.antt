@@ -53,10 +53,13 @@ use Rattle.block_machine.specs.Deeds.{is_crowded}
 use Rattle.block_machine.specs.Steps.{begun}
 use Rattle.drive_scene.specs.Present.{IsPresentMap}
 use Rattle.drive_core.specs.Moves.{Moves, MayWork, Leaves}
-use Rattle.drive_core.specs.Putting.{IsInCache, IsAtPlace, NeedsPut, GoesThrough}
+use Rattle.sector_store.specs.Caching.{IsInCache, IsAtPlace}
+use Rattle.drive_core.specs.Putting.{NeedsPut, GoesThrough}
+use Rattle.drive_core.proofs.Written.{MayStore}
 use Rattle.drive_core.proofs.Closing.{Goes, Stops}
 use Rattle.drive_core.proofs.TakeTurns.{WorksAt, works_at, StandsAt, stands_at, stands_in, free_block, owed_at}
 use Rattle.drive_scene.specs.Kinds.{put_state, through_state}
+use Rattle.drive_scene.specs.Laws.{HalvesAreGood, PutsAreHalves, PutsThroughAreHalves}
 use Rattle.drive_core.proofs.PutParts.{crowded, uncrowded}
 use Rattle.drive_core.proofs.WriteTurns.{course, written, IsWriteNeed, put_need, write_need, wrote, verifying}
 use Rattle.drive_core.proofs.WriteKinds.{IsAtWrite, turn_kept, turn_through}
@@ -176,13 +179,13 @@ verify_served w served verifies = refl
 
 -- a block went into the cache
 pub kept_moves : (s : Scene) (d mid e : Server) (c : ℕ) (b : Lba) (bytes : List ℕ) (reply : Option Reply) (before entries : List Entry) (told : Option told_end.Ended)
-    → MayWork s d c → NeedsPut d.commands.items c (need.Put b) bytes → IsCache d.store.cache → SettlesOne → (IsFullFor b d.store.cache → ⊥)
+    → HalvesAreGood → PutsAreHalves → MayWork s d c → NeedsPut d.commands.items c (need.Put b) bytes → IsCache d.store.cache → SettlesOne → (IsFullFor b d.store.cache → ⊥)
     → IsInCache b bytes d.store mid.store → mid.set ≡ d.set → mid.arrived ≡ d.arrived → mid.known ≡ d.known
     → ((w : Course) → under_way d.commands.items c ≡ Some w → reply ≡ ending_of (after w answer.Put))
     → ((a : Accepted) (w : Course) → accepted_of d.commands.items c ≡ Some a → a.work ≡ Some w
     → Replaces d.commands.items mid.commands.items c (record a { work = Some (after w answer.Put) }))
     → before ≡ Put c b bytes ∷ [] → Concludes mid e c reply before entries told → Moves (Work c) s d e entries told
-kept_moves s d mid e c b bytes reply before entries told may needs once settles room kept set arrived known reply_is replaces before_is concludes =
+kept_moves s d mid e c b bytes reply before entries told halves puts may needs once settles room kept set arrived known reply_is replaces before_is concludes =
     let is : IsWriting s d c b bytes false = writing_of s d c b bytes false may needs in
     let a : Accepted = is.a in
     let store : e.store ≡ mid.store = same_store mid e c reply before entries told concludes in
@@ -198,7 +201,7 @@ kept_moves s d mid e c b bytes reply before entries told may needs once settles 
       replaces = replaces is.a (course is.settings is.gives is.w is.p is.rec) is.there is.works;
     } in
     wrote s d e c is.m is.settings is.gives is.w is.p is.rec [] (Put c (lba is.w.at) bytes ∷ []) (put_state s c (lba is.w.at) bytes)
-    (turn_kept s d e c is.m is.settings is.gives is.w is.p is.rec bytes is.at is.through_is room_at kept_at)
+    (turn_kept s d e c is.m is.settings is.gives is.w is.p is.rec bytes is.at halves puts is.through_is room_at kept_at)
     is.a entries reply told is.at.left is.reached (verify_served is.w is.at.working.served)
     (reply_is (course is.settings is.gives is.w is.p is.rec) is.under_way)
     (goes_from d mid e c (record is.a { work = Some (written is.settings is.gives is.w is.p is.rec) }) reply (Put c (lba is.w.at) bytes ∷ []) before entries told answered concludes half_is)
@@ -207,14 +210,14 @@ kept_moves s d mid e c b bytes reply before entries told may needs once settles 
 -- a block went to its place, because the command writes through, or the cache was full
 through_moves : (s : Scene) (d mid e : Server) (c : ℕ) (b : Lba) (bytes : List ℕ) (reply : Option Reply) (before entries : List Entry) (told : Option told_end.Ended)
     (is : (t : Bool) × IsWriting s d c b bytes t × ((t || is_crowded (begun s.hist (Work c)) c b.0) ≡ true))
-    → IsAtPlace b bytes d.store mid.store → BlocksHaveOwnSectors → StoresAt d.store.map mid.store.platter.ops b (Data bytes)
-    → KeepsOthers d.store.map d.store.platter.ops mid.store.platter.ops b → IsPresentMap mid.store.map mid.store.platter.ops
+    → HalvesAreGood → PutsThroughAreHalves → IsAtPlace b bytes d.store mid.store → BlocksHaveOwnSectors
+    → StoresAt d.store.map mid.store.platter.ops b (Data bytes) → KeepsOthers d.store.map d.store.platter.ops mid.store.platter.ops b → IsPresentMap mid.store.map mid.store.platter.ops
     → mid.set ≡ d.set → mid.arrived ≡ d.arrived → mid.known ≡ d.known
     → ((w : Course) → under_way d.commands.items c ≡ Some w → reply ≡ ending_of (after w answer.Hardened))
     → ((a : Accepted) (w : Course) → accepted_of d.commands.items c ≡ Some a → a.work ≡ Some w
     → Replaces d.commands.items mid.commands.items c (record a { work = Some (after w answer.Hardened) }))
     → before ≡ Put c b bytes ∷ Harden (Command c) b ∷ [] → Concludes mid e c reply before entries told → Moves (Work c) s d e entries told
-through_moves s d mid e c b bytes reply before entries told (t, is, forced) stored own_sectors stores keeps present set arrived known reply_is replaces before_is concludes =
+through_moves s d mid e c b bytes reply before entries told (t, is, forced) halves puts stored own_sectors stores keeps present set arrived known reply_is replaces before_is concludes =
     let store : e.store ≡ mid.store = same_store mid e c reply before entries told concludes in
     let P : Lba → Contained → Type 0 = λ k x. IsAtPlace k bytes d.store x × StoresAt d.store.map x.platter.ops k (Data bytes)
     × KeepsOthers d.store.map d.store.platter.ops x.platter.ops k × IsPresentMap x.map x.platter.ops in
@@ -233,7 +236,7 @@ through_moves s d mid e c b bytes reply before entries told (t, is, forced) stor
     } in
     wrote s d e c is.m is.settings is.gives is.w is.p is.rec (Wrote (placed s.map (lba is.w.at) bytes) ∷ [])
     (Put c (lba is.w.at) bytes ∷ Harden (Command c) (lba is.w.at) ∷ []) (through_state s c (lba is.w.at) bytes)
-    (turn_through s d e c is.m is.settings is.gives is.w is.p is.rec bytes is.at forced_at all.0 own_sectors all.1 all.2 all.3)
+    (turn_through s d e c is.m is.settings is.gives is.w is.p is.rec bytes is.at halves puts forced_at all.0 own_sectors all.1 all.2 all.3)
     is.a entries reply told is.at.left is.reached (verify_served is.w is.at.working.served)
     (reply_is (course is.settings is.gives is.w is.p is.rec) is.under_way)
     (goes_from d mid e c (record is.a { work = Some (written is.settings is.gives is.w is.p is.rec) }) reply
@@ -250,28 +253,22 @@ forced_by s d c b bytes may by =
 
 -- the same, from what is required
 pub through_moves_by : (s : Scene) (d mid e : Server) (c : ℕ) (b : Lba) (bytes : List ℕ) (reply : Option Reply) (before entries : List Entry) (told : Option told_end.Ended)
-    → MayWork s d c → GoesThrough d c b bytes
+    → HalvesAreGood → PutsThroughAreHalves → MayWork s d c → GoesThrough d c b bytes
     → IsAtPlace b bytes d.store mid.store → BlocksHaveOwnSectors → StoresAt d.store.map mid.store.platter.ops b (Data bytes)
     → KeepsOthers d.store.map d.store.platter.ops mid.store.platter.ops b
-    → IsStore mid.store → KeepsBlocks mid.store.map mid.store.platter.ops mid.store.platter.ops
-    → (mid.store.map.number < 2 ^ 63 → MayBeRecovered mid.store.map.size mid.store.platter.ops mid.store.map)
+    → IsStore mid.store → (mid.store.ready ≡ true → KeepsBlocks mid.store.map mid.store.platter.ops mid.store.platter.ops)
+    → (mid.store.ready ≡ true → mid.store.map.number < 2 ^ 63 → MayBeRecovered mid.store.map.size mid.store.platter.ops mid.store.map)
     → mid.set ≡ d.set → mid.arrived ≡ d.arrived → mid.known ≡ d.known
     → ((w : Course) → under_way d.commands.items c ≡ Some w → reply ≡ ending_of (after w answer.Hardened))
     → ((a : Accepted) (w : Course) → accepted_of d.commands.items c ≡ Some a → a.work ≡ Some w
     → Replaces d.commands.items mid.commands.items c (record a { work = Some (after w answer.Hardened) }))
     → before ≡ Put c b bytes ∷ Harden (Command c) b ∷ [] → Concludes mid e c reply before entries told → Moves (Work c) s d e entries told
-through_moves_by s d mid e c b bytes reply before entries told may by stored own_sectors stores keeps store finds may_be =
+through_moves_by s d mid e c b bytes reply before entries told halves puts may by stored own_sectors stores keeps store finds may_be =
+    let ready : mid.store.ready ≡ true = ap (λ (x : Contained). x.ready) stored.after ∙ may.fits.store.ready in
     let number : mid.store.map.number < 2 ^ 63 =
-    subst (λ (n : DefectMap). n.number < 2 ^ 63) (sym (stored.map ∙ may.fits.store.map)) may.fits.store.present.number in
-    through_moves s d mid e c b bytes reply before entries told (forced_by s d c b bytes may by) stored own_sectors stores keeps
-    (record { there = store.there; number = number; may_be = may_be number; finds = finds })
-
--- what a write to a block's place needs of the store
-pub record MayStore (d : Contained) (b : Lba) : Type 0 where
-  pub below : b.0 < capacity_of d.map.size
-  pub powered : is_off d.platter.ops ≡ false
-  pub sound : is_faulty (place_of d.map b) d.platter.ops ≡ false
-  pub unarmed : d.platter.armed ≡ None
+    subst (λ (n : DefectMap). n.number < 2 ^ 63) (sym (ap (λ (x : Contained). x.map) stored.after ∙ may.fits.store.map)) may.fits.store.present.number in
+    through_moves s d mid e c b bytes reply before entries told (forced_by s d c b bytes may by) halves puts stored own_sectors stores keeps
+    (record { there = store.there ready; number = number; may_be = may_be ready number; finds = finds ready })
 
 pub may_store : (s : Scene) (d : Server) (c : ℕ) (b : Lba) (bytes : List ℕ) → MayWork s d c → GoesThrough d c b bytes → MayStore d.store b
 may_store s d c b bytes may by =

@@ -10,13 +10,12 @@ use Rattle.disk_base.specs.declared.payload.Payload.{Payload}
 use Rattle.platter_model.specs.declared.op.Op.{Op}
 use Rattle.platter_model.specs.declared.op.Op.TheVariants.{Wrote}
 use Rattle.platter_model.specs.Sector.{is_faulty}
-use Rattle.platter_model.specs.State.{State as Platter}
 use Rattle.platter_model.specs.TrueLog.{is_off, strays}
 use Rattle.mode_pages.specs.declared.settings.Settings.{Settings}
 use Rattle.geometry_map.specs.DefectMap.{DefectMap}
 use Rattle.geometry_map.specs.Laws.{BlocksHaveOwnSectors}
 use Rattle.sector_store.specs.Stored.{stored as stored_at, StoresAt, KeepsOthers}
-use Rattle.sector_store.specs.State.{placed}
+use Rattle.sector_store.specs.State.{Contained, placed}
 use Rattle.task_set.specs.declared.member.Member.{Member}
 use Rattle.task_set.specs.Members.{member_of}
 use Rattle.read_recovery.specs.Stages.{Progress}
@@ -40,14 +39,16 @@ use Rattle.drive_scene.specs.View.{view}
 use Rattle.drive_core.specs.Commands.{IsWorking}
 use Rattle.drive_scene.specs.Present.{IsPresentMap}
 use Rattle.drive_core.specs.Fits.{Fits}
-use Rattle.drive_core.specs.Putting.{IsInCache, IsAtPlace}
+use Rattle.sector_store.specs.Caching.{IsInCache, IsAtPlace}
 use Rattle.drive_scene.proofs.Tables.{put_at-own, put_at-other, within_map}
 use Rattle.drive_core.proofs.Closing.{has_ops}
+use Rattle.drive_core.proofs.Written.{uncounted}
 use Rattle.drive_scene.proofs.HardenTurns.{unstrayed}
 use Rattle.drive_core.proofs.HardenMoves.{off-written, faults-written}
 use Rattle.drive_core.proofs.HardenParts.{IsAfterHarden}
 use Rattle.drive_scene.specs.Kinds.{IsPut, IsPutThrough, put_state, through_state}
-use Rattle.drive_scene.proofs.PutTurns.{half_put, half_through, through-own, through-other}
+use Rattle.drive_scene.specs.Laws.{HalvesAreGood, PutsAreHalves, PutsThroughAreHalves}
+use Rattle.drive_scene.proofs.PutTurns.{through-own, through-other}
 use Rattle.drive_core.proofs.PutParts.{IsAfterPut, cached_put, cached_through, without-with}
 use Rattle.drive_core.proofs.WriteTurns.{course, next-kept, next-through, next-written, to_harden, IsWriteTurn}
 
@@ -73,18 +74,20 @@ module _ (s : Scene) (d e : Server) (c : ℕ) (m : Member) (settings : Settings)
   put = record { below = below; free = at.free; stood = at.fits.stands }
 
   -- into the cache
-  pub turn_kept : w.through ≡ false → is_crowded (begun s.hist (Work c)) c w.at ≡ false → IsInCache (lba w.at) bytes d.store e.store
+  pub turn_kept : HalvesAreGood → PutsAreHalves → w.through ≡ false → is_crowded (begun s.hist (Work c)) c w.at ≡ false → IsInCache (lba w.at) bytes d.store e.store
       → IsWriteTurn s d e c m (course settings gives w p rec) (after_written w) [] (Put c (lba w.at) bytes ∷ []) (put_state s c (lba w.at) bytes)
-  turn_kept unforced room kept =
-      let added : e.store.platter.ops ≡ d.store.platter.ops ++ [] = ap (λ (x : Platter). x.ops) kept.platter ∙ sym (append-nil d.store.platter.ops) in
+  turn_kept halves puts unforced room kept =
+      let added : e.store.platter.ops ≡ d.store.platter.ops ++ [] = ap (λ (x : Contained). x.platter.ops) kept.after ∙ sym (append-nil d.store.platter.ops) in
       let present : IsPresentMap e.store.map e.store.platter.ops =
-      subst (λ (n : DefectMap). IsPresentMap n e.store.platter.ops) (sym (kept.map ∙ at.fits.store.map))
-      (subst (λ (xs : List Op). IsPresentMap s.map xs) (sym (ap (λ (x : Platter). x.ops) kept.platter ∙ at.fits.store.ops)) at.fits.store.present) in
+      subst (λ (n : DefectMap). IsPresentMap n e.store.platter.ops) (sym (ap (λ (x : Contained). x.map) kept.after ∙ at.fits.store.map))
+      (subst (λ (xs : List Op). IsPresentMap s.map xs) (sym (ap (λ (x : Contained). x.platter.ops) kept.after ∙ at.fits.store.ops)) at.fits.store.present) in
       record {
         fits = at.fits;
         is_in = at.is_in;
         working = at.working;
-        half_is = half_put s c (lba w.at) bytes (Writing w) (after_written w) put owes (next-kept w bytes _ at.unhardened at.left at.block unforced room);
+        half_is = puts s c (lba w.at) bytes (Writing w) (after_written w) put owes (next-kept w bytes _ at.unhardened at.left at.block unforced room);
+        halves = halves;
+        tries = λ more. refl;
         acts = refl;
         opens = or_left (eqb c c) false (eq-eqb c c refl);
         opens_too = λ x. or_left (eqb c c) false (eq-eqb c c refl);
@@ -92,8 +95,8 @@ module _ (s : Scene) (d e : Server) (c : ℕ) (m : Member) (settings : Settings)
         untold = refl;
         told = λ x. refl;
         added = added;
-        has = λ t map_is ops_is. has_ops s t d.store e.store [] at.fits.store map_is ops_is kept.map added (ap (λ (x : Platter). x.armed) kept.platter)
-            (ap is_off (append-nil s.ops)) (λ q. ap (is_faulty q) (append-nil s.ops)) present;
+        has = λ t map_is ops_is. has_ops s t d.store e.store [] at.fits.store map_is ops_is (ap (λ (x : Contained). x.map) kept.after) added (ap (λ (x : Contained). x.platter.armed) kept.after)
+            (ap (λ (x : Contained). x.ready) kept.after) (ap is_off (append-nil s.ops)) (λ q. ap (is_faulty q) (append-nil s.ops)) present;
         cached = λ t more size_is map_is ops_is since_is entries_is blocks_are order.
             let after : IsAfterPut s t c (lba w.at) bytes = record {
               size = size_is;
@@ -113,18 +116,18 @@ module _ (s : Scene) (d e : Server) (c : ℕ) (m : Member) (settings : Settings)
       }
 
   -- to its place
-  pub turn_through : (w.through || is_crowded (begun s.hist (Work c)) c w.at) ≡ true → IsAtPlace (lba w.at) bytes d.store e.store → BlocksHaveOwnSectors
+  pub turn_through : HalvesAreGood → PutsThroughAreHalves → (w.through || is_crowded (begun s.hist (Work c)) c w.at) ≡ true → IsAtPlace (lba w.at) bytes d.store e.store → BlocksHaveOwnSectors
       → StoresAt d.store.map e.store.platter.ops (lba w.at) (Data bytes) → KeepsOthers d.store.map d.store.platter.ops e.store.platter.ops (lba w.at)
       → IsPresentMap e.store.map e.store.platter.ops
       → IsWriteTurn s d e c m (course settings gives w p rec) (after_written w) (Wrote (placed s.map (lba w.at) bytes) ∷ [])
       (Put c (lba w.at) bytes ∷ Harden (Command c) (lba w.at) ∷ []) (through_state s c (lba w.at) bytes)
-  turn_through forced stored own_sectors stores keeps present =
+  turn_through halves puts forced stored own_sectors stores keeps present =
       let payload_is : placed d.store.map (lba w.at) bytes ≡ placed s.map (lba w.at) bytes = ap (λ (n : DefectMap). placed n (lba w.at) bytes) at.fits.store.map in
       let added : e.store.platter.ops ≡ d.store.platter.ops ++ Wrote (placed s.map (lba w.at) bytes) ∷ [] =
-      ap (λ (x : Platter). x.ops) stored.platter ∙ ap (λ (x : Payload). d.store.platter.ops ++ Wrote x ∷ []) payload_is in
+      ap (λ (x : Contained). x.platter.ops) stored.after ∙ ap (λ (x : Payload). d.store.platter.ops ++ Wrote x ∷ []) payload_is in
       let all_ops : e.store.platter.ops ≡ s.ops ++ Wrote (placed s.map (lba w.at) bytes) ∷ [] =
       added ∙ ap (λ (xs : List Op). xs ++ Wrote (placed s.map (lba w.at) bytes) ∷ []) at.fits.store.ops in
-      let same_map : e.store.map ≡ s.map = stored.map ∙ at.fits.store.map in
+      let same_map : e.store.map ≡ s.map = ap (λ (x : Contained). x.map) stored.after ∙ at.fits.store.map in
       let present_then : IsPresentMap s.map (s.ops ++ Wrote (placed s.map (lba w.at) bytes) ∷ []) =
       subst (λ (xs : List Op). IsPresentMap s.map xs) all_ops (subst (λ (n : DefectMap). IsPresentMap n e.store.platter.ops) same_map present) in
       let stores_then : StoresAt s.map (s.ops ++ Wrote (placed s.map (lba w.at) bytes) ∷ []) (lba w.at) (Data bytes) =
@@ -147,8 +150,10 @@ module _ (s : Scene) (d e : Server) (c : ℕ) (m : Member) (settings : Settings)
         fits = at.fits;
         is_in = at.is_in;
         working = at.working;
-        half_is = half_through s c (lba w.at) bytes (Writing w) (to_harden w) (after_written w) is owes
+        half_is = puts s c (lba w.at) bytes (Writing w) (to_harden w) (after_written w) is owes
             (next-through w bytes _ at.unhardened at.left at.block forced) (next-written w at.left);
+        halves = halves;
+        tries = λ more. refl;
         acts = refl;
         opens = or_left (eqb c c) _ (eq-eqb c c refl);
         opens_too = λ x. or_left (eqb c c) _ (eq-eqb c c refl);
@@ -156,8 +161,9 @@ module _ (s : Scene) (d e : Server) (c : ℕ) (m : Member) (settings : Settings)
         untold = refl;
         told = λ x. refl;
         added = added;
-        has = λ t map_is ops_is. has_ops s t d.store e.store (Wrote (placed s.map (lba w.at) bytes) ∷ []) at.fits.store map_is ops_is stored.map added
-            (ap (λ (x : Platter). x.armed) stored.platter) (off-written s.ops (placed s.map (lba w.at) bytes))
+        has = λ t map_is ops_is. has_ops s t d.store e.store (Wrote (placed s.map (lba w.at) bytes) ∷ []) at.fits.store map_is ops_is (ap (λ (x : Contained). x.map) stored.after) added
+            (ap (λ (x : Contained). x.platter.armed) stored.after ∙ uncounted d.store.platter.armed at.fits.store.unarmed)
+            (ap (λ (x : Contained). x.ready) stored.after) (off-written s.ops (placed s.map (lba w.at) bytes))
             (faults-written s.ops (placed s.map (lba w.at) bytes)) present;
         cached = λ t more size_is map_is ops_is since_is entries_is blocks_are order.
             let after : IsAfterHarden s t (lba w.at) bytes = record {

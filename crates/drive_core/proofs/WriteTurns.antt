@@ -1,5 +1,5 @@
 -- Where a write stands after a block was put, and how its turn moves the drive.
-use Rattle.std.proofs.Common.{◌≡◌, ◌≢◌, ℕ, ◌+◌, ◌-◌, ◌<◌, ◌≤◌, Bool, true, false, not, cond, eqb, ltb, List, [], ◌∷◌, ◌++◌, length, Option, Some, None, refl, sym, ap, ◌∙◌, subst, arith}
+use Rattle.std.proofs.Common.{◌≡◌, ◌≢◌, ℕ, ◌+◌, ◌-◌, ◌<◌, ◌≤◌, Bool, true, false, not, cond, eqb, ltb, List, [], ◌∷◌, ◌++◌, length, Option, Some, None, refl, sym, ap, ◌∙◌, subst, arith, append-nil}
 use Rattle.std.specs.Prelude.{◌&&◌, ◌||◌, fold, IsTrue, Result}
 use Rattle.std.specs.List.{list_any}
 use Rattle.std.specs.Option.{option_and_then, option_map_or, is_some}
@@ -58,12 +58,13 @@ use Rattle.drive_core.specs.Moves.{Moves}
 use Rattle.drive_scene.proofs.Tables.{put_at-own}
 use Rattle.drive_scene.proofs.Gets.{bytes_eq-own}
 use Rattle.drive_scene.specs.Half.{Half}
-use Rattle.drive_scene.proofs.Halves.{goes_on, ends}
+use Rattle.drive_scene.specs.Laws.{HalvesAreGood}
 use Rattle.drive_scene.proofs.Apart.{holds_none}
 use Rattle.drive_scene.proofs.Elsewhere.{after_half, after_end, reached-end}
 use Rattle.drive_core.proofs.Fitting.{fits_on, fits_end}
 use Rattle.drive_core.proofs.Closing.{Goes, Stops, moves_on, moves_end}
 use Rattle.drive_core.proofs.Windows.{room_of}
+use Rattle.drive_scene.specs.GoodTurn.{AreTriesShown}
 
 -- a command that needs a block to be put is a write at that block
 pub record IsWriteNeed (plan : Plan) (step : Step) (b : Lba) (through : Bool) : Type 0 where
@@ -251,7 +252,7 @@ fresh_reading v r retry left window same clean = record {
   left = left;
   next = ap is_some (plain_stage retry 0 (omega arith));
   retry = sym same;
-  failed = λ k x below here. absurd (omega arith);
+  failed = window;
   unfound = ap last_found window;
   tried = ap length window;
   clean = clean;
@@ -264,6 +265,8 @@ pub record IsWriteTurn (s : Scene) (d e : Server) (c : ℕ) (m : Member) (course
   pub is_in : member_of s.hist.set c ≡ Some m
   pub working : IsWorking (view s c) m course
   pub half_is : Half s c ops half h plan
+  pub halves : HalvesAreGood
+  pub tries : (more : List Entry) → AreTriesShown s (Work c) (half ++ more) ops
   pub acts : (not (eqb (length ops) 0) || not (eqb (length half) 0)) ≡ true
   pub opens : list_any (opens_window c) half ≡ true
   pub opens_too : (x : Reply) → list_any (opens_window c) (half ++ Ended c x ∷ []) ≡ true
@@ -320,7 +323,8 @@ module _ (s : Scene) (d e : Server) (c : ℕ) (m : Member) (settings : Settings)
       → Goes d e c (record a { work = Some (written settings gives w p rec) }) half entries told → Moves (Work c) s d e entries told
   on a plan entries told is settled at range own_range served holds goes =
       moves_on s c ops half entries h (after_written w) d e (record a { work = Some (written settings gives w p rec) }) told turn.half_is
-      (goes_on s c ops half h (after_written w) (room_of s c d turn.fits) (turn.has (after_half s c ops half) refl refl).present turn.half_is (ap (λ (x : Plan). owes_nothing_now (Some x)) is ∙ settled) turn.acts)
+      (turn.halves.on s c ops half h (after_written w) (room_of s c d turn.fits) (turn.has (after_half s c ops half) refl refl).present turn.half_is
+      (subst (λ (es : List Entry). AreTriesShown s (Work c) es ops) (append-nil half) (turn.tries [])) (ap (λ (x : Plan). owes_nothing_now (Some x)) is ∙ settled) turn.acts)
       (fits_on s c ops half h (after_written w) d e (record a { work = Some (written settings gives w p rec) }) turn.half_is turn.fits goes.set goes.arrived goes.known
       goes.replaces (turn.has (after_half s c ops half) refl refl)
       (turn.cached (after_half s c ops half) [] refl refl refl refl (ap (λ (es : List Entry). s.entries ++ es) (sym (append-nil half)))
@@ -344,7 +348,7 @@ module _ (s : Scene) (d e : Server) (c : ℕ) (m : Member) (settings : Settings)
       let shown_last : End (Writing (next_writing w)) = λ more. absurd (omega arith) in
       let reached = reached-end s c ops half h (after_written w) good turn.half_is in
       moves_end s c ops half entries h (after_written w) d e good told turn.half_is
-      (ends s c ops half h (after_written w) Over good (room_of s c d turn.fits) (turn.has (after_half s c ops half) refl refl).present turn.half_is owes_last told_last (subst End (sym is) shown_last))
+      (turn.halves.over s c ops half h (after_written w) Over good (room_of s c d turn.fits) (turn.has (after_half s c ops half) refl refl).present turn.half_is (turn.tries (Ended c good ∷ [])) owes_last told_last (subst End (sym is) shown_last))
       (fits_end s c ops half h (after_written w) good d e turn.half_is turn.fits stops.left (turn.has (after_end s c ops half good) refl refl)
       (turn.cached (after_end s c ops half good) (Ended c good ∷ []) refl refl refl refl refl
       (ap (λ (x : State). x.blocks) reached) (ap (λ (x : State). x.dirty) reached)))
@@ -360,7 +364,7 @@ module _ (s : Scene) (d e : Server) (c : ℕ) (m : Member) (settings : Settings)
     where
       by : After w → Moves (Work c) s d e entries told
       by (another more is) =
-          on a (Writing (next_writing w)) entries told is refl (window, more) turn.working.range turn.working.own_range turn.working.served refl
+          on a (Writing (next_writing w)) entries told is refl (window, more, refl) turn.working.range turn.working.own_range turn.working.served refl
           (goes (reply_is ∙ unended-another settings gives w p rec more is))
       by (verify verifies is) =
           on a (Reading (verifying w)) entries told is refl

@@ -1,36 +1,35 @@
--- A write to a sector without a fault, while the power is on and no cut is armed.
-use Rattle.std.proofs.Common.{◌≡◌, ℕ, Bool, false, cond, List, None, ap, ◌∙◌, subst}
+-- A write to a block's place that is carried out: the power is on, no cut is armed, and the sector has no write fault.
+use Rattle.std.proofs.Common.{◌≡◌, ℕ, ◌<◌, Bool, false, cond, Option, None, sym, ap, ◌∙◌}
 use Rattle.disk_base.specs.declared.address.Lba.{Lba}
 use Rattle.disk_base.specs.declared.address.Psn.{Psn}
 use Rattle.platter_model.specs.declared.answer.WriteAnswer.TheVariants.{Written, Fault, Off}
+use Rattle.platter_model.specs.declared.damage.Arming.{Arming}
 use Rattle.platter_model.specs.Sector.{is_faulty}
 use Rattle.platter_model.specs.TrueLog.{is_off}
 use Rattle.platter_model.specs.State.{State, write_answer, good_answer}
+use Rattle.geometry_map.specs.Size.{capacity_of}
 use Rattle.geometry_map.specs.DefectMap.{place_of}
 use Rattle.sector_store.specs.declared.answer.StoreAnswer.{StoreAnswer}
 use Rattle.sector_store.specs.declared.answer.StoreAnswer.TheVariants as store_answer
-use Rattle.sector_store.specs.State.{Contained, placed, after_write_of, answer_by}
-use Rattle.write_cache.specs.Contents.{Contents}
-use Rattle.drive_core.proofs.Settling.{carried_out}
-use Rattle.drive_core.specs.Putting.{LeavesOut, IsAtPlace}
+use Rattle.sector_store.specs.State.{Contained, answer_by}
+use Rattle.sector_store.specs.Caching.{counted}
+
+-- what a write to a block's place needs of the store
+pub record MayStore (d : Contained) (b : Lba) : Type 0 where
+  pub below : b.0 < capacity_of d.map.size
+  pub powered : is_off d.platter.ops ≡ false
+  pub sound : is_faulty (place_of d.map b) d.platter.ops ≡ false
+  pub unarmed : d.platter.armed ≡ None
 
 answered-written : (s : State) (p : Psn) → is_off s.ops ≡ false → is_faulty p s.ops ≡ false → s.armed ≡ None → write_answer s p ≡ Written
 answered-written s p on sound unarmed =
     ap (λ (t : Bool). cond t Off (cond (is_faulty p s.ops) Fault (good_answer s.armed))) on
     ∙ (ap (λ (t : Bool). cond t Fault (good_answer s.armed)) sound ∙ ap good_answer unarmed)
 
-pub answered-done : (s : Contained) (b : Lba) (answer : StoreAnswer) → answer ≡ answer_by (write_answer s.platter (place_of s.map b))
-    → is_off s.platter.ops ≡ false → is_faulty (place_of s.map b) s.platter.ops ≡ false → s.platter.armed ≡ None → answer ≡ store_answer.Done
-answered-done s b answer is on sound unarmed = is ∙ ap answer_by (answered-written s.platter (place_of s.map b) on sound unarmed)
+pub answered-done : (s : Contained) (b : Lba) (answer : StoreAnswer) → answer ≡ answer_by (write_answer s.platter (place_of s.map b)) → MayStore s b
+    → answer ≡ store_answer.Done
+answered-done s b answer is may = is ∙ ap answer_by (answered-written s.platter (place_of s.map b) may.powered may.sound may.unarmed)
 
-pub at_place : (b : Lba) (bytes : List ℕ) (old mid : Contained) (lent left : Contents) → mid ≡ after_write_of old b bytes
-    → is_off old.platter.ops ≡ false → is_faulty (place_of old.map b) old.platter.ops ≡ false → old.platter.armed ≡ None
-    → lent ≡ mid.cache → LeavesOut b lent left → IsAtPlace b bytes old (record { map = mid.map; cache = left; platter = mid.platter })
-at_place b bytes old mid lent left is on sound unarmed lends leaves = record {
-  map = ap (λ (x : Contained). x.map) is;
-  platter = ap (λ (x : Contained). x.platter) is ∙ carried_out old.platter (place_of old.map b) (placed old.map b bytes) on sound unarmed;
-  cache = from (lends ∙ ap (λ (x : Contained). x.cache) is) leaves;
-}
-  where
-    from : {x y : Contents} → x ≡ y → LeavesOut b x left → LeavesOut b y left
-    from {x} {y} same h = let P : Contents → Type 0 = λ z. LeavesOut b z left in subst P same h
+-- where no cut is armed a write counts none
+pub uncounted : (armed : Option Arming) → armed ≡ None → counted armed ≡ armed
+uncounted armed none = ap counted none ∙ sym none

@@ -49,7 +49,7 @@ pub record IsTrying (v : View) (r : reading.Reading) (p : Progress) : Type 0 whe
 -- a command at the block that comes next, between its turns
 abbrev pub IsAtBlock : View → Plan → Step → Type 0
 IsAtBlock v (Reading r) (Trying p) = IsTrying v r p
-IsAtBlock v (Writing w) (Trying p) = (v.window ≡ []) × (w.at < w.end)
+IsAtBlock v (Writing w) (Trying p) = (v.window ≡ []) × (w.at < w.end) × (w.owes_harden ≡ false)
 IsAtBlock v (Syncing y) (Trying p) = (v.window ≡ []) × (y.at < y.end)
 IsAtBlock v plan step = ⊥
 

@@ -1,5 +1,5 @@
 -- The parts of a drive are what its turns have come to.
-use Rattle.std.specs.Prelude.{◌≡◌, ℕ, ◌≤◌, ◌<◌, false, List, length, map, Some, None, All}
+use Rattle.std.specs.Prelude.{◌≡◌, ℕ, ◌≤◌, ◌<◌, false, true, List, length, map, Some, None, All}
 use Rattle.std.specs.Map.{keys_of}
 use Rattle.std.specs.Option.{option_map}
 use Rattle.disk_base.specs.declared.address.Lba.{Lba}
@@ -25,13 +25,15 @@ use Rattle.drive_scene.specs.View.{view}
 use Rattle.drive_core.specs.Commands.{IsStaged}
 use Rattle.drive_scene.specs.Present.{IsPresentMap}
 
--- the store has the map and the operations, the map is there, the power is on, and no sector has a write fault
+-- the store has the map and the operations, the map is there, the power is on, no cut is armed, the store is ready, and no sector has a
+-- write fault
 pub record HasOps (s : Scene) (store : Contained) : Type 0 where
   pub map : store.map ≡ s.map
   pub ops : store.platter.ops ≡ s.ops
   pub present : IsPresentMap s.map s.ops
   pub powered : is_off s.ops ≡ false
   pub unarmed : store.platter.armed ≡ None
+  pub ready : store.ready ≡ true
   pub sound : (p : Psn) → is_faulty p s.ops ≡ false
 
 -- a clean value of a block of the drive: the block isn't dirty, the value is known, and, while no operation is a stray, it is what is stored

@@ -1,17 +1,7 @@
--- A dirty block's newest data come to its place.
-use Rattle.std.specs.Prelude.{◌≡◌, ◌≢◌, ℕ, ◌⊎◌, ◌^◌, ◌≤◌, ◌<◌, false, IsTrue, List, [], ◌∷◌, if◌then◌else◌, nat_lt, IsSome, None, Some}
-use Rattle.std.specs.Map.{remove_entry}
+-- When a command hardens a dirty block, and where it stands then.
+use Rattle.std.specs.Prelude.{◌≡◌, ℕ, IsTrue, List, [], ◌∷◌, if◌then◌else◌, nat_lt, IsSome, Some}
 use Rattle.disk_base.specs.declared.address.Lba.{Lba}
-use Rattle.disk_base.specs.declared.block.Value.TheVariants.{Data}
-use Rattle.platter_model.specs.declared.op.Op.TheVariants.{Wrote}
-use Rattle.platter_model.specs.Sector.{is_faulty}
-use Rattle.platter_model.specs.State.{with_op}
-use Rattle.platter_model.specs.TrueLog.{is_off}
-use Rattle.geometry_map.specs.Size.{capacity_of}
-use Rattle.geometry_map.specs.DefectMap.{place_of}
-use Rattle.write_cache.specs.Contents.{Contents, is_at, newest, clean_data}
-use Rattle.sector_store.specs.Stored.{StoresAt, KeepsOthers}
-use Rattle.sector_store.specs.State.{Contained, placed}
+use Rattle.write_cache.specs.Contents.{newest}
 use Rattle.cdb_reader.specs.declared.plan.Plan.{Plan}
 use Rattle.cdb_reader.specs.declared.plan.Plan.TheVariants.{Syncing}
 use Rattle.command_engine.specs.declared.answer.Answer.TheVariants.{Hardened, NextDirty}
@@ -22,36 +12,9 @@ use Rattle.block_machine.specs.declared.entry.Entry.TheVariants.{Passed}
 use Rattle.drive_core.specs.declared.server.Server.{Server}
 use Rattle.drive_core.specs.Accepting.{under_way}
 use Rattle.drive_scene.specs.Evidence.{lba}
-use Rattle.drive_scene.specs.Present.{IsPresentMap}
 use Rattle.drive_scene.specs.Holds.{needed_block}
 use Rattle.drive_core.specs.Moves.{MayWork}
 use Rattle.drive_scene.specs.Scene.{Scene}
-
--- a block is dirty, and a write to its place is carried out: the power is on, no cut is armed, the sector has no write fault
-pub record MayHarden (s : Contained) (b : Lba) : Type 0 where
-  pub below : b.0 < capacity_of s.map.size
-  pub dirty : IsSome (newest b s.cache)
-  pub room : 2 ≤ s.platter.room
-  pub powered : is_off s.platter.ops ≡ false
-  pub unarmed : s.platter.armed ≡ None
-  pub sound : is_faulty (place_of s.map b) s.platter.ops ≡ false
-
--- a dirty block with these data isn't dirty any more; it is clean with them, unless memory is missing, and no other block is
--- changed but that it may not be kept clean any more
-pub record Settles (old : Contents) (b : Lba) (bytes : List ℕ) (new : Contents) : Type 0 where
-  pub ages : new.dirty ≡ remove_entry (is_at b) old.dirty
-  pub own : newest b new ≡ None
-  pub others : (q : Lba) → q ≢ b → newest q new ≡ newest q old
-  pub clean : (q : Lba) (held : List ℕ) → clean_data q new ≡ Some held → ((q ≡ b) × (held ≡ bytes)) ⊎ (clean_data q old ≡ Some held)
-
--- a dirty block's data are written to its place, which stores them there and changes no other block, and then it is clean
-pub record Hardens (old : Contained) (b : Lba) (bytes : List ℕ) (new : Contained) : Type 0 where
-  pub map : new.map ≡ old.map
-  pub cache : Settles old.cache b bytes new.cache
-  pub platter : new.platter ≡ with_op old.platter (Wrote (placed old.map b bytes))
-  pub present : old.map.number < 2 ^ 63 → IsPresentMap old.map new.platter.ops
-  pub stored : StoresAt old.map new.platter.ops b (Data bytes)
-  pub kept : KeepsOthers old.map old.platter.ops new.platter.ops b
 
 -- where a command stands once it met a block dirty and the block was hardened
 abbrev pub hardened_at : Lba → Course → Course

@@ -1,5 +1,5 @@
 -- What the type of a drive keeps.
-use Rattle.std.specs.Prelude.{◌≤◌, length, map}
+use Rattle.std.specs.Prelude.{◌≡◌, ◌≤◌, length, map}
 use Rattle.disk_base.specs.Along.{Along}
 use Rattle.drive_core.specs.declared.server.Server.{Server}
 use Rattle.drive_scene.specs.Scene.{scene_at_start, scene_after, factory_ops}
@@ -7,9 +7,11 @@ use Rattle.drive_scene.specs.GoodTurn.{GoodTurn}
 use Rattle.drive_scene.specs.Run.{Run, beat_of, FollowFrom, scene_of}
 use Rattle.drive_core.specs.Fits.{Fits}
 
--- each turn of the run is good, the drive's parts are what they have come to, and no more commands came than there are turns
+-- the map is of the drive's measures, each turn of the run is good, the drive's parts are what they have come to, and no more
+-- commands came than there are turns
 pub record Kept (r : Run) (d : Server) : Type 0 where
-  pub follow : FollowFrom (length (factory_ops r.size r.primary)) r.turns (length r.ops)
-  pub good : Along scene_after GoodTurn (scene_at_start r.size r.primary) (map (beat_of r.ops) r.turns)
+  pub size : d.store.map.size ≡ r.made.size
+  pub follow : FollowFrom (length (factory_ops r.made)) r.turns (length r.ops)
+  pub good : Along scene_after GoodTurn (scene_at_start r.made) (map (beat_of r.ops) r.turns)
   pub fits : Fits (scene_of r) d
   pub numbered : d.arrived ≤ length r.turns

@@ -4,11 +4,11 @@ pub mod Fits
 pub mod Kept
 pub mod Moves
 pub mod Served
-pub mod Serving
-pub mod Arriving
+pub mod Making
 pub mod Starting
 pub mod Hardening
 pub mod Taking
 pub mod Needed
+pub mod Claims
 pub mod Putting
 pub mod Syncing

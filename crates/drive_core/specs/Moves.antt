@@ -32,6 +32,7 @@ pub record MayWork (s : Scene) (d : Server) (c : ℕ) : Type 0 where
 -- room aside, nothing changes
 pub record IsSameStore (old new : Contained) : Type 0 where
   pub map : new.map ≡ old.map
+  pub ready : new.ready ≡ old.ready
   pub cache : new.cache ≡ old.cache
   pub ops : new.platter.ops ≡ old.platter.ops
   pub armed : new.platter.armed ≡ old.platter.armed

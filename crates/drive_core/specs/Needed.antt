@@ -1,5 +1,5 @@
--- The block that a command needs next, as its need says it.
-use Rattle.std.specs.Prelude.{◌≡◌, ◌==◌, ◌&&◌, ◌||◌, nat_lt, Bool, false, [], Option, Some, None, IfSome}
+-- The block that a command needs next, and the one that it holds, as its need says them.
+use Rattle.std.specs.Prelude.{◌≡◌, ◌||◌, nat_lt, Bool, if◌then◌else◌, [], Option, Some, None, IfSome}
 use Rattle.disk_base.specs.declared.address.Lba.{Lba}
 use Rattle.write_cache.specs.Contents.{Contents, dirty_within, IsLeast}
 use Rattle.command_engine.specs.declared.need.Need.{Need}
@@ -20,7 +20,7 @@ IsNeeded cache (need.Pass from to) first = IsFirstWithin cache from to first
 IsNeeded cache need.Page first = first ≡ None
 IsNeeded cache need.Nothing first = first ≡ None
 
--- a block is needed by a stage past the first, or since it was hardened
-abbrev pub is_held : Lba → Bool → Need → Bool
-is_held b hardened (need.Take taken medium stage) = taken.0 == b.0 && (nat_lt 0 stage.number || hardened)
-is_held b hardened other = false
+-- the block that is held: it is needed by a stage past the first, or since it was hardened
+abbrev pub held_of : Bool → Need → Option Lba
+held_of hardened (need.Take b medium stage) = if nat_lt 0 stage.number || hardened then Some b else None
+held_of hardened other = None

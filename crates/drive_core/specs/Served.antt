@@ -44,7 +44,7 @@ IsServedWorld size other = ⊥
 
 -- what may arrive so far
 abbrev pub IsServedArrival : Arrival → Type 0
-IsServedArrival (Command i tag attribute cdb sent) = IsTrue (is_served_cdb cdb)
+IsServedArrival (Command x) = IsTrue (is_served_cdb x.cdb)
 IsServedArrival (Function i what) = Unit {0}
 
 -- the events that are served

@@ -1,23 +1,23 @@
 //! Which turns may come, and why others are refused.
-ghost use Rattle.std.specs.Prelude.{◌≡◌, ◌+◌, ◌<◌, ◌≤◌, ◌==◌, ◌&&◌, not, if◌then◌else◌, map, filter, false, All, Some, None, IfSome, find};
-ghost use Rattle.std.specs.Option.{option_map, option_map_or, option_and_then};
+ghost use Rattle.std.specs.Prelude.{◌≡◌, ◌+◌, ◌<◌, ◌≤◌, if◌then◌else◌, ℕ, map, filter, length, position, slice_index_or, All, Some, None, IfSome};
+ghost use Rattle.std.specs.Option.{option_map, option_and_then};
+ghost use Rattle.command_engine.specs.Need.{need_of};
 ghost use Rattle.command_engine.specs.Answers.{is_hardened};
 ghost use Rattle.task_set.specs.Members.{member_of, IsIn, blocker_of};
-ghost use Rattle.block_machine.specs.declared.turn.Label.TheVariants as label;
 ghost use Rattle.block_machine.specs.Attentions.{initiators};
 ghost use Rattle.drive_scene.specs.Scene.{Scene};
 ghost use Rattle.drive_core.specs.Fits.{Fits};
-ghost use Rattle.drive_scene.specs.Evidence.{lba};
-ghost use Rattle.drive_core.specs.Accepting.{under_way};
-ghost use Rattle.drive_scene.specs.Holds.{holds, holder_besides, needed_block};
-ghost use Rattle.drive_core.specs.Needed.{IsNeeded, is_held};
-ghost use Rattle.drive_scene.specs.Able.{refusal_of_work, work_refused, held_by_other, is_able, arrives, picked, nothing_waiting};
+ghost use Rattle.drive_core.specs.Needed.{IsNeeded, held_of};
+ghost use Rattle.drive_core.specs.Accepting.{is_numbered};
+ghost use Rattle.drive_core.specs.declared.accepted.Accepted.{Accepted as Command};
+ghost use Rattle.drive_core.specs.Claims.{older_after, claim_of, claims_of, holders_of, is_holder, keeps_from, holder_besides, held_back};
+ghost use Rattle.drive_scene.specs.Able.{refusal_of_work, work_refused, is_able, arrives, picked, nothing_waiting};
 
-use crate::accepted::{Accepted, errand_at, place};
+use crate::accepted::{Accepted, place};
 use crate::server::Server;
 use crate::{Holder, Pick, TurnAnswer, Waiting};
 use arrayvec::ArrayVec;
-use command_engine::Need;
+use command_engine::{Need, Work};
 use disk_base::{Initiator, Lba};
 use task_set::{Member, TASKS_MAX};
 use write_cache::Cache;
@@ -27,7 +27,14 @@ pub fn refusal_of_work(server: &Server, c: u32, coming: u32) -> Option<TurnAnswe
     ensures { (s : Scene) → Fits s server.now → result ≡ refusal_of_work s coming c }
 {
     match server.set.member(c) {
-        Some(member) => work_refused(server, &member),
+        Some(member) if member.started => {
+            let claims = claims(server);
+            let holders = holders(claims.as_slice());
+            let commands = server.commands.as_slice();
+            let claim = claim_at(server, c, place(commands, c));
+            held_back(&claim, holders.as_slice())
+        }
+        Some(_) => dormant(server, c),
         None => Some(TurnAnswer::Idle { coming }),
     }
 }
@@ -93,58 +100,118 @@ fn able_commands(server: &Server) -> ArrayVec<u32, TASKS_MAX>
     ensures able { (s : Scene) → Fits s server.now → result.items ≡ map (λ m. m.task.c) (filter (is_able s) s.hist.set) }
     ensures free { (s : Scene) → Fits s server.now → All (λ c. refusal_of_work s 0 c ≡ None) result.items }
 {
+    let claims = claims(server);
+    let holders = holders(claims.as_slice());
     let mut able = ArrayVec::new();
-    for member in server.set.members() {
-        if work_refused(server, member).is_none() {
+    for (i, member) in server.set.members().iter().enumerate() {
+        if work_refused(server, member, &claims[i], holders.as_slice()).is_none() {
             able.push(member.task.c);
         }
     }
     able
 }
 
-// Why work on a command of the set is refused.
-fn work_refused(server: &Server, member: &Member) -> Option<TurnAnswer>
-    requires { member_of server.now.set member.now.task.c ≡ Some member.now }
-    ensures { (s : Scene) → Fits s server.now → result ≡ work_refused s member.now.task.c member.now }
+// What a command claims of the blocks: the one that it needs next, and the one that it holds.
+#[derive(Clone, Copy, Debug, Default)]
+struct Claim {
+    c: u32,
+    needs: Option<Lba>,
+    holds: Option<Lba>,
+}
+
+// What the commands of the set claim, by age. As far as the accepted commands stand in the order of the set, each is found at once.
+fn claims(server: &Server) -> ArrayVec<Claim, TASKS_MAX>
+    ensures claims { (s : Scene) → Fits s server.now → result.items ≡ claims_of s }
+    ensures each { length result.items ≡ length server.now.set }
+    ensures fits { length result.items ≤ TASKS_MAX }
 {
-    if member.started {
-        held(server, member.task.c)
+    let commands = server.commands.as_slice();
+    let mut claims = ArrayVec::new();
+    let mut older = 0;
+    for member in server.set.members() {
+        let place = place_from(commands, older, member.task.c);
+        older = older_after(older, place);
+        claims.push(claim_at(server, member.task.c, place));
+    }
+    claims
+}
+
+// Where the command of a number is, which is looked for first behind so many that are older.
+fn place_from(commands: &[Accepted], older: usize, c: u32) -> Option<usize>
+    requires { (k : ℕ) (a : Command) → k < older → (slice_index_or commands.now k a).c < c }
+    ensures { result ≡ position (is_numbered c) commands.now }
+{
+    if older < commands.len() && commands[older].c == c {
+        Some(older)
     } else {
-        dormant(server, member.task.c)
+        place(commands, c)
     }
 }
 
-// The refusal of a command that the set keeps from starting.
-fn dormant(server: &Server, c: u32) -> Option<TurnAnswer>
-    requires { IsIn server.now.set c }
-    ensures { result ≡ option_map TurnAnswer.Dormant (blocker_of server.now.set c) }
+// How many are older than the next of the set: one more, where the command at this place is the next of them.
+fn older_after(older: usize, place: Option<usize>) -> usize
+    requires { older < TASKS_MAX }
+    ensures { result ≡ older_after older place }
 {
-    match server.set.may_run(c) {
-        Some(blocker) => Some(TurnAnswer::Dormant { blocker }),
-        None => None,
+    match place {
+        Some(i) if i == older => older + 1,
+        _ => older,
     }
 }
 
-// The refusal of a started command whose next block is held.
-fn held(server: &Server, c: u32) -> Option<TurnAnswer>
-    ensures { (s : Scene) → Fits s server.now → result ≡ option_and_then (held_by_other s c) (needed_block s c) }
+// Those of the claims by which a block is held.
+fn holders(claims: &[Claim]) -> ArrayVec<Claim, TASKS_MAX>
+    requires { length claims.now ≤ TASKS_MAX }
+    ensures { result.items ≡ filter is_holder claims.now }
 {
-    match needed(server, c) {
-        Some(b) => match holder_besides(server, c, b) {
-            Some(by) => Some(TurnAnswer::Held { b, by }),
-            None => None,
+    let mut holders = ArrayVec::new();
+    for claim in claims {
+        if claim.holds.is_some() {
+            holders.push(*claim);
+        }
+    }
+    holders
+}
+
+// What the command at a place claims: nothing before it is started.
+fn claim_at(server: &Server, c: u32, place: Option<usize>) -> Claim
+    requires { place ≡ position (is_numbered c) server.now.commands.items }
+    ensures { (s : Scene) → Fits s server.now → result ≡ claim_of s c }
+{
+    let commands = server.commands.as_slice();
+    match place {
+        Some(i) => match &commands[i].work {
+            Some(work) => claim_by(work, c, server.store.cached()),
+            None => nothing(c),
         },
-        None => None,
+        None => nothing(c),
     }
 }
 
-// The block that a started command needs next.
-fn needed(server: &Server, c: u32) -> Option<Lba>
-    ensures { (s : Scene) → Fits s server.now → result ≡ option_map lba (needed_block s c) }
+// What a started command claims by its need.
+fn claim_by(work: &Work, c: u32, cache: &Cache) -> Claim
+    ensures c { result.c ≡ c }
+    ensures needs { IsNeeded cache.now (need_of work.now) result.needs }
+    ensures holds { result.holds ≡ held_of (is_hardened work.now.plan) (need_of work.now) }
 {
-    match errand_at(server.commands.as_slice(), c) {
-        Some(errand) => block_of(errand.need, server.store.cached()),
-        None => None,
+    let need = work.need();
+    Claim {
+        c,
+        needs: block_of(need, cache),
+        holds: held(need, work.is_hardened()),
+    }
+}
+
+// The claim of a command that claims no block.
+fn nothing(c: u32) -> Claim
+    ensures c { result.c ≡ c }
+    ensures needs { result.needs ≡ None }
+    ensures holds { result.holds ≡ None }
+{
+    Claim {
+        c,
+        needs: None,
+        holds: None,
     }
 }
 
@@ -163,58 +230,74 @@ fn block_of(need: Need, cache: &Cache) -> Option<Lba>
     }
 }
 
-// Who else than a command holds a block: the oldest command that does.
-fn holder_besides(server: &Server, c: u32, b: Lba) -> Option<Holder>
-    ensures { (s : Scene) → Fits s server.now → result ≡ holder_besides s (label.Work c) b.0 }
+// The block that is held by a need: it was tried or hardened, and isn't got yet.
+fn held(need: Need, hardened: bool) -> Option<Lba>
+    ensures { result ≡ held_of hardened need }
 {
-    for member in server.set.members() {
-        if keeps_from(server, member.task.c, c, b) {
-            return Some(Holder::Command(member.task.c));
-        }
+    match need {
+        Need::Take { b, stage, .. } if stage.number > 0 || hardened => Some(b),
+        _ => None,
     }
-    None
+}
+
+// Why work on a command of the set is refused, by its claim and the claims of all that hold a block.
+fn work_refused(
+    server: &Server,
+    member: &Member,
+    claim: &Claim,
+    holders: &[Claim],
+) -> Option<TurnAnswer>
+    requires { member_of server.now.set member.now.task.c ≡ Some member.now }
+    ensures { (s : Scene) → Fits s server.now → claim.now ≡ claim_of s member.now.task.c → holders.now ≡ holders_of s
+        → result ≡ work_refused s member.now.task.c member.now }
+{
+    if member.started {
+        held_back(claim, holders)
+    } else {
+        dormant(server, member.task.c)
+    }
+}
+
+// The refusal of a command that the set keeps from starting.
+fn dormant(server: &Server, c: u32) -> Option<TurnAnswer>
+    requires { IsIn server.now.set c }
+    ensures { result ≡ option_map TurnAnswer.Dormant (blocker_of server.now.set c) }
+{
+    match server.set.may_run(c) {
+        Some(blocker) => Some(TurnAnswer::Dormant { blocker }),
+        None => None,
+    }
+}
+
+// The refusal of a started command whose next block is held.
+fn held_back(claim: &Claim, holders: &[Claim]) -> Option<TurnAnswer>
+    ensures { result ≡ held_back holders.now claim.now }
+{
+    match claim.needs {
+        Some(b) => match holder_besides(holders, claim.c, b) {
+            Some(by) => Some(TurnAnswer::Held { b, by }),
+            None => None,
+        },
+        None => None,
+    }
+}
+
+// Who else than a command holds a block: the oldest command that does.
+fn holder_besides(holders: &[Claim], c: u32, b: Lba) -> Option<Holder>
+    ensures { result ≡ holder_besides holders.now c b }
+{
+    holders
+        .iter()
+        .find(|holder| keeps_from(holder, c, b))
+        .map(|holder| Holder::Command(holder.c))
 }
 
 // Whether a command keeps another from a block.
-fn keeps_from(server: &Server, holder: u32, c: u32, b: Lba) -> bool
-    ensures { (s : Scene) → Fits s server.now → result ≡ (not (holder == c) && holds s b.0 holder) }
+fn keeps_from(holder: &Claim, c: u32, b: Lba) -> bool
+    ensures { result ≡ keeps_from c b holder.now }
 {
-    holder != c && holds(server, holder, b)
-}
-
-// Whether a command holds a block: it was tried or hardened for it, and isn't got yet.
-fn holds(server: &Server, c: u32, b: Lba) -> bool
-    ensures { (s : Scene) → Fits s server.now → result ≡ holds s b.0 c }
-{
-    match errand_at(server.commands.as_slice(), c) {
-        Some(errand) => is_held(errand.need, is_hardened(server.commands.as_slice(), c), b),
-        None => false,
-    }
-}
-
-// Whether a block is needed by a stage past the first, or since it was hardened.
-fn is_held(need: Need, hardened: bool, b: Lba) -> bool
-    ensures { result ≡ is_held b hardened need }
-{
-    match need {
-        Need::Take {
-            b: taken,
-            stage,
-            ..
-        } => taken == b && (stage.number > 0 || hardened),
-        _ => false,
-    }
-}
-
-// Whether the block that comes next was hardened for a command.
-fn is_hardened(commands: &[Accepted], c: u32) -> bool
-    ensures { result ≡ option_map_or (λ w. is_hardened w.plan) (under_way commands.now c) false }
-{
-    match place(commands, c) {
-        Some(i) => match &commands[i].work {
-            Some(work) => work.is_hardened(),
-            None => false,
-        },
+    match holder.holds {
+        Some(block) => holder.c != c && block == b,
         None => false,
     }
 }

@@ -5,48 +5,22 @@ ghost use Rattle.drive_scene.specs.Scene.{Scene};
 ghost use Rattle.drive_core.specs.Moves.{Moves};
 ghost use Rattle.drive_core.specs.Fits.{Fits};
 ghost use Rattle.drive_core.specs.Served.{is_served_cdb};
-ghost use Rattle.drive_scene.specs.Turning.{BeginsWith};
-ghost use Rattle.drive_core.specs.Arriving.{entry_of};
-ghost use Rattle.drive_core.specs.Serving.{MayServe, IsServedTurn, entries_at_most, may_want_memory};
+ghost use Rattle.drive_scene.specs.Turning.{BeginsWith, entry_of};
+ghost use Rattle.drive_core.specs.Making.{MayCome, IsTurnOf, entries_at_most, may_want_memory};
 ghost use Rattle.drive_scene.specs.declared.event.Event.TheVariants as event;
 
 use crate::accepted::Accepted;
 use crate::asking::ask;
 use crate::server::Server;
-use crate::turning::Served;
-use crate::{Arrival, Ended};
+use crate::turning::MadeTurn;
+use crate::{Arrival, Arriving, Ended};
 use block_machine::{Entry, Label};
-use disk_base::{Attribute, Cdb, DataOut, Initiator, NoMemory, Tag};
+use disk_base::NoMemory;
+use drive_scene::still_turns_are_good;
 use history_replay::settle_set;
 use sense_data::{Reply, TASK_SET_FULL};
 use std::alloc::Global;
 use task_set::TASKS_MAX;
-
-/// A command that arrives.
-#[derive(Debug, Drop)]
-pub struct Arriving {
-    pub initiator: Initiator,
-    pub tag: Tag,
-    pub attribute: Attribute,
-    pub cdb: Cdb,
-    pub sent: DataOut,
-}
-
-impl Arriving {
-    // Its entry, by the number that it gets.
-    fn into_entry(self, c: u32) -> Entry
-        ensures { result ≡ entry_of c self }
-    {
-        Entry::Arrived {
-            c,
-            initiator: self.initiator,
-            tag: self.tag,
-            attribute: self.attribute,
-            cdb: self.cdb,
-            sent: self.sent,
-        }
-    }
-}
 
 /// The turn of an arrival.
 pub fn arrive(
@@ -54,40 +28,28 @@ pub fn arrive(
     server: &mut Server,
     arrival: Arrival,
     entries: &mut Vec<Entry>,
-) -> Result<Served, NoMemory>
-    requires may { (s : Scene) × MayServe s server.old (event.Arrive arrival) }
+) -> Result<MadeTurn, NoMemory>
+    requires may { (s : Scene) × MayCome s server.old (event.Arrive arrival) }
     requires empty { entries.old.items ≡ [] }
     requires entry_room { entries_at_most (event.Arrive arrival) ≤ vec_capacity entries.old }
     requires command_room { vec_len server.old.commands + 1 ≤ vec_capacity server.old.commands }
-    ensures moves { (s : Scene) → MayServe s server.old (event.Arrive arrival)
-        → IfOk result (IsServedTurn s (event.Arrive arrival) server.old server.new entries.new.items) }
+    ensures moves { (s : Scene) → MayCome s server.old (event.Arrive arrival)
+        → IfOk result (IsTurnOf s (event.Arrive arrival) server.old server.new entries.new.items) }
     ensures certain { may_want_memory server.old.commands.items (event.Arrive arrival) ≡ false → IsOk result }
     ensures err { OnErr result (server.new ≡ server.old) }
 {
     match arrival {
-        Arrival::Command {
-            initiator,
-            tag,
-            attribute,
-            cdb,
-            sent,
-        } => {
-            let arriving = Arriving {
-                initiator,
-                tag,
-                attribute,
-                cdb,
-                sent,
-            };
+        Arrival::Command(arriving) => {
+            let initiator = arriving.initiator;
             let ended = enter(alloc, server, arriving, entries)?;
-            Ok(Served {
+            Ok(MadeTurn {
                 label: Label::Arrive(initiator),
                 ended,
             })
         }
         Arrival::Function { initiator, what } => {
             ask(server, initiator, what, entries);
-            Ok(Served {
+            Ok(MadeTurn {
                 label: Label::Arrive(initiator),
                 ended: None,
             })
@@ -112,6 +74,7 @@ fn enter(
     ensures arrival { OnOk result (BeginsWith (Some (entry_of (server.old.arrived + 1) arriving)) entries.new.items) }
     ensures err { OnErr result (server.new ≡ server.old) }
 {
+    still_turns_are_good();
     let c = server.arrived + 1;
     let accepted = Accepted {
         c,
@@ -125,7 +88,7 @@ fn enter(
         status: TASK_SET_FULL,
     };
     let full = server.set.members().len() >= TASKS_MAX;
-    let entry = arriving.into_entry(c);
+    let entry = entry_of(c, arriving);
     settle_set(&mut server.set, server.known.capacity, &entry);
     server.arrived = c;
     entries.push_reserved(entry);
@@ -138,4 +101,18 @@ fn enter(
     }
     server.commands.push_reserved(accepted);
     Ok(None)
+}
+
+// The entry of a command that arrives, by the number that it gets.
+fn entry_of(c: u32, arriving: Arriving) -> Entry
+    ensures { result ≡ entry_of c arriving }
+{
+    Entry::Arrived {
+        c,
+        initiator: arriving.initiator,
+        tag: arriving.tag,
+        attribute: arriving.attribute,
+        cdb: arriving.cdb,
+        sent: arriving.sent,
+    }
 }

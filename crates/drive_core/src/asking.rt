@@ -14,6 +14,7 @@ use crate::server::Server;
 use crate::standing::stands_by_age;
 use block_machine::{Entry, Label};
 use disk_base::{Function, Initiator};
+use drive_scene::still_turns_are_good;
 use history_replay::{settings_after, settle_attentions};
 use sense_data::codes::INVALID_OPERATION_CODE;
 use task_set::{Gone, TaskSet};
@@ -27,6 +28,7 @@ pub fn ask(server: &mut Server, initiator: Initiator, what: Function, entries: &
     ensures moves { (s : Scene) → Fits s server.old → Moves (ArriveOf initiator) s server.old server.new entries.new.items None }
     ensures asked { BeginsWith (Some (AskedFor initiator what)) entries.new.items }
 {
+    still_turns_are_good();
     let asked = Entry::Asked { initiator, what };
     let label = Label::Arrive(initiator);
     // No command starts.

@@ -11,11 +11,12 @@ ghost use Rattle.drive_core.specs.Starting.{KnowsStart};
 
 use crate::server::{Server, reserve};
 use crate::standing::{stands, stands_by_age};
-use crate::turning::{entries_at_most, serve};
+use crate::turning::{entries_at_most, make_turn};
 use crate::{Event, Pick, TurnAnswer, Waiting, able};
 use block_machine::{Entries, Entry, Turn, Turns};
-use disk_base::{NoMemory, Psn};
-use geometry_map::{Size, two_blocks_are_never_at_one_sector};
+use disk_base::{Items, NoMemory, Psn};
+use drive_scene::{Made, factories_leave_zeros, maps_stay};
+use geometry_map::Size;
 use history_replay::{Known, Scanning};
 use mode_pages::Settings;
 use platter_model::Ops;
@@ -29,11 +30,12 @@ use task_set::{TaskSet, some_command_may_run};
 // As many turns a drive can number.
 const TURNS_MAX: usize = 4_294_967_294;
 
-/// A drive on its platter, with all its turns. Contracts see what it did: its measures, its turns, the operations of its
-/// platter, and how many arrivals are still expected.
+/// A drive on its platter, with all its turns. Contracts see what it did: what the factory was told, its turns, the operations
+/// of its platter, and how many arrivals are still expected.
 #[derive(Drop)]
 pub struct Drive {
     alloc: Global,
+    made: Made,
     server: Server,
     turns: Vec<Turn>,
     coming: u32,
@@ -45,21 +47,21 @@ impl Model for Drive {
 
     ghost Value = { Run };
 
-    ghost view = { λ d. run_of d.server.store d.turns.items d.coming };
+    ghost view = { λ d. run_of d.made d.server.store d.turns.items d.coming };
 
-    ghost invariant = { λ d. Kept (run_of d.server.store d.turns.items d.coming) d.server };
+    ghost invariant = { λ d. Kept (run_of d.made d.server.store d.turns.items d.coming) d.server };
 }
 
 impl Drive {
     /// A drive of this size, whose sectors in the list are bad from the factory on: all its blocks are zeros.
     pub fn factory(alloc: Global, size: Size, primary: &[Psn]) -> Result<Self, StoreFault>
         ensures { MatchResult result
-            (λ drive. (drive ≡ run_at_start size primary.now) × IsPrimaryList size primary.now)
+            (λ drive. (drive ≡ run_at_start (record { size = size; primary = primary.now })) × IsPrimaryList size primary.now)
             (λ fault. (fault ≡ StoreFault.Primary) ↔ (IsPrimaryList size primary.now → ⊥)) }
     {
         let store = Store::factory(alloc, size, primary)?;
         stands(&store);
-        two_blocks_are_never_at_one_sector();
+        factories_leave_zeros();
         let server = Server {
             store,
             set: TaskSet::new(),
@@ -70,6 +72,7 @@ impl Drive {
         Ok(Drive {
             alloc,
             server,
+            made: told(alloc, size, primary)?,
             turns: Vec::new(alloc),
             coming: 0,
         })
@@ -80,13 +83,14 @@ impl Drive {
         ensures good { IsGoodRun self.now }
         ensures powered { is_off self.now.ops ≡ false }
     {
+        maps_stay();
         let platter = self.server.store.platter();
         platter.has_a_true_log();
     }
 
     /// Makes the turn of an event, or answers why there is none. Want of memory leaves the drive as it was.
     pub fn turn(&mut self, event: Event) -> Result<TurnAnswer, NoMemory>
-        requires { IsServed self.old.size event }
+        requires { IsServed self.old.made.size event }
         ensures turn { IfOk result (λ given. MatchOption (refusal self.old event)
             (AddsTurn self.old event given self.new)
             (λ refused. (given ≡ refused) × (self.new ≡ self.old))) }
@@ -99,17 +103,17 @@ impl Drive {
         let mut entries = reserve(self.alloc, &mut self.server, &mut self.turns, entries_max)?;
         let from = self.server.store.platter().ops().len() as u64;
         let coming = coming_after(self.coming, &event);
-        let served = serve(self.alloc, &mut self.server, event, &mut entries)?;
+        let made = make_turn(self.alloc, &mut self.server, event, &mut entries)?;
         self.coming = coming;
         self.turns.push_reserved(Turn {
-            label: served.label,
+            label: made.label,
             ops_from: from,
             ops_to: self.server.store.platter().ops().len() as u64,
             entries: sealed(entries),
         });
         Ok(TurnAnswer::Done {
             number: self.turns.len() as u64,
-            ended: served.ended,
+            ended: made.ended,
             scanned: false,
         })
     }
@@ -176,7 +180,7 @@ impl Drive {
 
     pub fn store(&self) -> &Store
         ensures ops { result.now.platter.ops ≡ self.now.ops }
-        ensures size { result.now.map.size ≡ self.now.size }
+        ensures size { result.now.map.size ≡ self.now.made.size }
     {
         &self.server.store
     }
@@ -190,6 +194,17 @@ impl Drive {
         let Server { store, .. } = server;
         (Turns::from_vec(turns), store.into_ops())
     }
+}
+
+// What the factory is told.
+fn told(alloc: Global, size: Size, primary: &[Psn]) -> Result<Made, NoMemory>
+    ensures { IfOk result (λ made. made ≡ record { size = size; primary = primary.now }) }
+{
+    let primary = Vec::from_slice(alloc, primary)?;
+    Ok(Made {
+        size,
+        primary: Items::from_vec(primary),
+    })
 }
 
 // What is known of a fresh drive.

@@ -23,4 +23,4 @@ mod turning;
 mod worldly;
 
 pub use drive::Drive;
-pub use drive_scene::{Arrival, Ended, Event, Holder, Pick, TurnAnswer, Waiting};
+pub use drive_scene::{Arrival, Arriving, Ended, Event, Holder, Pick, TurnAnswer, Waiting};

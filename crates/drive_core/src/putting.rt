@@ -13,11 +13,12 @@ use crate::accepted::{Accepted, place};
 use crate::ending::conclude;
 use crate::server::Server;
 use crate::standing::stands;
-use crate::storing::{keep, write_through};
+use crate::storing::carried_out;
 use crate::{Ended, accepted};
 use block_machine::{Entry, Who};
 use command_engine::{Answer, Need};
 use disk_base::{Block, Lba};
+use drive_scene::{halves_are_good, puts_are_halves, puts_through_are_halves};
 use geometry_map::two_blocks_are_never_at_one_sector;
 use write_cache::{Put, settling_ends_one_block};
 
@@ -54,7 +55,9 @@ pub fn put(
     ensures moves { (s : Scene) → MayWork s server.old c → Moves (WorkOn c) s server.old server.new entries.new.items result }
 {
     settling_ends_one_block();
-    match keep(&mut server.store, b, block) {
+    halves_are_good();
+    puts_are_halves();
+    match server.store.put(b, block) {
         Put::Kept => {
             entries.push_reserved(Entry::Put {
                 c,
@@ -84,7 +87,9 @@ pub fn put_through(
     ensures moves { (s : Scene) → MayWork s server.old c → Moves (WorkOn c) s server.old server.new entries.new.items result }
 {
     two_blocks_are_never_at_one_sector();
-    write_through(&mut server.store, b, block);
+    halves_are_good();
+    puts_through_are_halves();
+    carried_out(server.store.write_through(b, block));
     stands(&server.store);
     entries.push_reserved(Entry::Put {
         c,

@@ -27,6 +27,7 @@ use cdb_reader::{Command, Plan};
 use command_engine::Work;
 use defect_lists::{DefectReply, DefectRequest, defect_reply};
 use disk_base::{Bytes, DataOut, NoMemory};
+use drive_scene::still_turns_are_good;
 use geometry_map::Map;
 use history_replay::{Known, first_plan, read, settings_after, settings_made, settle_attentions};
 use mode_pages::Settings;
@@ -49,6 +50,7 @@ pub fn start(
     ensures moves { (s : Scene) → MayWork s server.old c → IfOk result (Moves (WorkOn c) s server.old server.new entries.new.items) }
     ensures err { OnErr result (server.new ≡ server.old) }
 {
+    still_turns_are_good();
     let first = first_of(alloc, server, c)?;
     entries.push_reserved(Entry::Started { c });
     tell(

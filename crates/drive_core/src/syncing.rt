@@ -15,6 +15,7 @@ use crate::server::Server;
 use block_machine::Entry;
 use command_engine::{Answer, Need};
 use disk_base::Lba;
+use drive_scene::{halves_are_good, passes_are_halves};
 
 /// One turn of a sync: it passes to the next dirty block and hardens that, or to the end of its range.
 pub fn sync(
@@ -31,6 +32,8 @@ pub fn sync(
     requires ops_room { 2 ≤ server.old.store.platter.room }
     ensures moves { (s : Scene) → MayWork s server.old c → Moves (WorkOn c) s server.old server.new entries.new.items result }
 {
+    halves_are_good();
+    passes_are_halves();
     match server.store.cached().next_dirty(from, to) {
         Some(b) => {
             pass(c, from, b, entries);

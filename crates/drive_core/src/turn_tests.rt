@@ -2,7 +2,7 @@
 ghost use Rattle.std.specs.Prelude.{◌≤◌, IsTrue};
 ghost use Rattle.drive_core.specs.Served.{is_served_cdb};
 
-use crate::{Arrival, Drive, Ended, Event, Holder, Pick, TurnAnswer, Waiting};
+use crate::{Arrival, Arriving, Drive, Ended, Event, Holder, Pick, TurnAnswer, Waiting};
 use block_machine::{Entry, Turn};
 use disk_base::{Attribute, Bytes, Cdb, DataOut, Function, Initiator, Lba, Psn, Tag};
 use geometry_map::Size;
@@ -60,13 +60,13 @@ fn send_with(
 ) -> Result<(Drive, TurnAnswer), Fail>
     requires { IsTrue (is_served_cdb bytes.now) }
 {
-    let arrival = Arrival::Command {
+    let arrival = Arrival::Command(Arriving {
         initiator: Initiator::new(from).ok_or("an initiator")?,
         tag: Tag(1),
         attribute,
         cdb: Cdb::new(bytes).ok_or("a command block")?,
         sent,
-    };
+    });
     let answer = drive.turn(Event::Arrive(arrival))?;
     Ok((drive, answer))
 }

@@ -4,17 +4,16 @@ ghost use Rattle.std.specs.Option.{option_map, is_none};
 ghost use Rattle.drive_core.specs.Accepting.{under_way, errand_of};
 ghost use Rattle.drive_scene.specs.Scene.{Scene};
 ghost use Rattle.drive_core.specs.Moves.{Moves, MayWork};
-ghost use Rattle.drive_core.specs.Serving.{MayServe, IsServedTurn, entries_at_most, may_want_memory};
+ghost use Rattle.drive_core.specs.Making.{MayCome, IsTurnOf, entries_at_most, may_want_memory};
 ghost use Rattle.block_machine.specs.declared.turn.Label.TheVariants.{Work as WorkOn};
 
 use crate::accepted::{Errand, errand_at};
 use crate::arriving::arrive;
-use crate::hardening::take_through;
 use crate::putting::{block_to_put, put, put_through};
 use crate::server::Server;
 use crate::starting::start;
 use crate::syncing::sync;
-use crate::taking::Sought;
+use crate::taking::{Sought, take_or_harden};
 use crate::worldly::happen;
 use crate::{Arrival, Ended, Event, able};
 use block_machine::{Entry, Label};
@@ -41,38 +40,38 @@ pub fn entries_at_most(event: &Event) -> usize
 
 /// A turn that was made.
 #[derive(Clone, Copy, Debug)]
-pub struct Served {
+pub struct MadeTurn {
     pub label: Label,
     pub ended: Option<Ended>,
 }
 
 /// Makes the turn of an event that isn't refused.
-pub fn serve(
+pub fn make_turn(
     alloc: Global,
     server: &mut Server,
     event: Event,
     entries: &mut Vec<Entry>,
-) -> Result<Served, NoMemory>
-    requires may { (s : Scene) × MayServe s server.old event }
+) -> Result<MadeTurn, NoMemory>
+    requires may { (s : Scene) × MayCome s server.old event }
     requires empty { entries.old.items ≡ [] }
     requires entry_room { entries_at_most event ≤ vec_capacity entries.old }
     requires ops_room { 2 ≤ server.old.store.platter.room }
     requires command_room { vec_len server.old.commands + 1 ≤ vec_capacity server.old.commands }
-    ensures moves { (s : Scene) → MayServe s server.old event → IfOk result (IsServedTurn s event server.old server.new entries.new.items) }
+    ensures moves { (s : Scene) → MayCome s server.old event → IfOk result (IsTurnOf s event server.old server.new entries.new.items) }
     // Only a command that comes or starts asks for more memory than was reserved.
     ensures certain { may_want_memory server.old.commands.items event ≡ false → IsOk result }
     ensures err { OnErr result (server.new ≡ server.old) }
 {
     match event {
         Event::Arrive(arrival) => arrive(alloc, server, arrival, entries),
-        Event::Work(c) => serve_work(alloc, server, c, entries),
+        Event::Work(c) => make_work_turn(alloc, server, c, entries),
         Event::Any(x) => match able::any(server, x) {
-            Some(c) => serve_work(alloc, server, c, entries),
+            Some(c) => make_work_turn(alloc, server, c, entries),
             None => unreachable!(),
         },
         Event::World(w) => {
             happen(server, &w, entries);
-            Ok(Served {
+            Ok(MadeTurn {
                 label: Label::World(w),
                 ended: None,
             })
@@ -82,12 +81,12 @@ pub fn serve(
 }
 
 // The turn of work on a command.
-fn serve_work(
+fn make_work_turn(
     alloc: Global,
     server: &mut Server,
     c: u32,
     entries: &mut Vec<Entry>,
-) -> Result<Served, NoMemory>
+) -> Result<MadeTurn, NoMemory>
     requires may { (s : Scene) × MayWork s server.old c }
     requires empty { entries.old.items ≡ [] }
     requires entry_room { 4 ≤ vec_capacity entries.old }
@@ -98,7 +97,7 @@ fn serve_work(
     ensures err { OnErr result (server.new ≡ server.old) }
 {
     let ended = work(alloc, server, c, entries)?;
-    Ok(Served {
+    Ok(MadeTurn {
         label: Label::Work(c),
         ended,
     })
@@ -148,7 +147,7 @@ fn go_on(server: &mut Server, c: u32, errand: Errand, entries: &mut Vec<Entry>) 
                 settings,
                 gives,
             };
-            take_through(server, c, sought, entries)
+            take_or_harden(server, c, sought, entries)
         }
         Need::Put { b } => {
             let block = block_to_put(server.commands.as_slice(), c);

@@ -1,13 +1,15 @@
 -- No two commands hold one block after a turn of one of them.
-use Rattle.std.proofs.Common.{◌≡◌, ◌≢◌, ◌⊎◌, inl, inr, ℕ, Bool, true, false, cond, eqb, not, List, length, Option, Some, None, refl, sym, ap, ◌∙◌}
-use Rattle.std.specs.Prelude.{◌||◌}
+use Rattle.std.proofs.Common.{◌≡◌, ◌≢◌, ◌⊎◌, inl, inr, ℕ, Bool, true, false, cond, eqb, ltb, not, List, [], length, Option, Some, None, refl, sym, ap, ◌∙◌}
+use Rattle.std.specs.Prelude.{◌||◌, ◌&&◌}
 use Rattle.std.specs.Option.{option_and_then}
 use Rattle.std.proofs.lemmas.Bool.{cases_eq}
 use Rattle.platter_model.specs.declared.op.Op.{Op}
 use Rattle.task_set.specs.declared.member.Member.{Member}
 use Rattle.task_set.specs.Members.{member_of}
 use Rattle.cdb_reader.specs.declared.plan.Plan.{Plan}
-use Rattle.cdb_reader.specs.declared.plan.Plan.TheVariants.{Reading}
+use Rattle.cdb_reader.specs.declared.plan.Plan.TheVariants.{Reading, Writing, Syncing}
+use Rattle.cdb_reader.specs.declared.plan.Writing as writing
+use Rattle.cdb_reader.specs.declared.plan.Syncing as syncing
 use Rattle.cdb_reader.specs.declared.plan.Reading as reading
 use Rattle.block_machine.specs.State.{owed_by}
 use Rattle.drive_scene.specs.Scene.{Scene}
@@ -30,6 +32,14 @@ holds_next s c window r free b held = by (not (eqb (length window) 0) || r.harde
     by : (t : Bool) → cond t (Some r.at) None ≡ Some b → holder_besides s (Work c) b ≡ None
     by true is = let same : r.at ≡ b = cc in sym (ap (holder_besides s (Work c)) same) ∙ free
     by false is = absurd (cc)
+
+-- a write and a sync hold no block where nothing failed and no harden is owed
+pub unheld_write : (window : List Op) (w : writing.Writing) → window ≡ [] → w.owes_harden ≡ false → held_by_plan window (Writing w) ≡ None
+unheld_write window w empty settled =
+    λ i. cond ((not (eqb (length (empty i)) 0) || settled i) && ltb w.at w.end) (Some w.at) None
+
+pub unheld_sync : (window : List Op) (y : syncing.Syncing) → window ≡ [] → held_by_plan window (Syncing y) ≡ None
+unheld_sync window y empty = ap (λ (w : List Op). held_by_plan w (Syncing y)) empty
 
 -- what a command holds, by the plan that it owes
 pub held_of : (t : Scene) (c : ℕ) (plan : Plan) → owed_by t.hist c ≡ Some plan → held_block t c ≡ held_by_plan (t.windows c) plan

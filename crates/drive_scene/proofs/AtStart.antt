@@ -13,18 +13,19 @@ use Rattle.disk_base.specs.declared.payload.Payload.{Payload}
 use Rattle.platter_model.specs.declared.op.Op.{Op}
 use Rattle.platter_model.specs.declared.op.Op.TheVariants.{Wrote}
 use Rattle.platter_model.specs.Sector.{is_sector, meant_after, is_faulty}
-use Rattle.platter_model.specs.TrueLog.{supply_after, powered}
-use Rattle.geometry_map.specs.declared.size.Size.{Size}
+use Rattle.platter_model.specs.TrueLog.{supply_after, powered, is_unpowered}
 use Rattle.geometry_map.specs.Size.{capacity_of}
 use Rattle.geometry_map.specs.Laws.{BlocksHaveOwnSectors}
 use Rattle.geometry_map.specs.DefectMap.{DefectMap, place_of, factory_map, IsValidMap}
 use Rattle.sector_store.specs.Maps.{records_of}
-use Rattle.sector_store.specs.Factory.{block_at, zero_block, zero_blocks, first_map}
+use Rattle.sector_store.specs.Factory.{block_at, zero_block, zero_blocks, first_map, factory_payloads}
 use Rattle.sector_store.specs.Stored.{value_in, stored}
 use Rattle.block_machine.specs.Blocks.{zeros, blocks_at_start, same_value}
+use Rattle.drive_scene.specs.declared.made.Made.{Made}
 use Rattle.drive_scene.specs.Scene.{factory_ops}
 use Rattle.drive_scene.specs.GoodTurn.{IsStood}
 use Rattle.drive_scene.specs.Present.{IsPresentMap}
+use Rattle.drive_scene.specs.Laws.{FactoriesLeaveZeros}
 use Rattle.drive_scene.proofs.Gets.{same_value-own}
 
 -- zeros are written to blocks, one after another
@@ -88,26 +89,34 @@ stored_after m own valid b below xs ys =
     ap (value_in b) (ap (fold (meant_after (place_of m b)) None) (map-append Wrote (xs ++ ys) (zero_blocks m)) ∙ last)
     ∙ ap (λ (t : Bool). if t then Data (replicate 512 0) else Lost) (eq-eqb b.0 b.0 refl)
 
-stored_zeros : (size : Size) (primary : List Psn) → BlocksHaveOwnSectors → IsValidMap (factory_map size primary) → (b : Lba) → b.0 < capacity_of size
-    → stored (factory_map size primary) (factory_ops size primary) b ≡ zeros
-stored_zeros size primary own valid b below =
-    stored_after (factory_map size primary) own valid b below (records_of (first_map size primary)) (records_of (factory_map size primary))
+stored_zeros : (made : Made) → BlocksHaveOwnSectors → IsValidMap (factory_map made.size made.primary) → (b : Lba) → b.0 < capacity_of made.size
+    → stored (factory_map made.size made.primary) (factory_ops made) b ≡ zeros
+stored_zeros made own valid b below =
+    stored_after (factory_map made.size made.primary) own valid b below (records_of (first_map made.size made.primary))
+    (records_of (factory_map made.size made.primary))
 
 -- the power is on
-pub on_after : (ps : List Payload) → fold supply_after powered (map Wrote ps) ≡ powered
+on_after : (ps : List Payload) → fold supply_after powered (map Wrote ps) ≡ powered
 on_after [] = refl
 on_after (p ∷ ps) = on_after ps
 
 -- no sector has a write fault
-pub sound_after : (p : Psn) (ps : List Payload) → is_faulty p (map Wrote ps) ≡ false
+sound_after : (p : Psn) (ps : List Payload) → is_faulty p (map Wrote ps) ≡ false
 sound_after p [] = refl
 sound_after p (q ∷ qs) = sound_after p qs
 
 zeros_allowed : IsTrue (list_any (same_value zeros) (zeros ∷ []))
 zeros_allowed = ap (λ (t : Bool). t || false) (same_value-own zeros)
 
-pub stood : (size : Size) (primary : List Psn) → BlocksHaveOwnSectors → IsPresentMap (factory_map size primary) (factory_ops size primary)
-    → IsStood (factory_map size primary) (factory_ops size primary) blocks_at_start
-stood size primary own present true_so_far taken may b below =
+stood : (made : Made) → BlocksHaveOwnSectors → IsPresentMap (factory_map made.size made.primary) (factory_ops made)
+    → IsStood (factory_map made.size made.primary) (factory_ops made) blocks_at_start
+stood made own present true_so_far taken may b below =
     subst (λ (v : Value). IsTrue (list_any (same_value v) (zeros ∷ [])))
-    (sym (present.finds taken may b ∙ stored_zeros size primary own present.there.valid b below)) zeros_allowed
+    (sym (present.finds taken may b ∙ stored_zeros made own present.there.valid b below)) zeros_allowed
+
+pub from_factory : BlocksHaveOwnSectors → FactoriesLeaveZeros
+from_factory own made present = record {
+  powered = ap is_unpowered (on_after (factory_payloads made.size made.primary));
+  sound = λ p. sound_after p (factory_payloads made.size made.primary);
+  stands = stood made own present;
+}

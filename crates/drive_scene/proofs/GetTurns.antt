@@ -1,6 +1,6 @@
 -- A turn in which a read tries a block, or gets it.
-use Rattle.std.proofs.Common.{◌≡◌, ◌≢◌, ℕ, ◌<◌, Bool, true, false, eqb, ltb, List, [], ◌∷◌, ◌++◌, Option, Some, None, refl, sym, ap, ◌∙◌, subst, ⊎_elim, append-nil}
-use Rattle.std.specs.Prelude.{◌&&◌, ◌||◌}
+use Rattle.std.proofs.Common.{◌≡◌, ◌≢◌, ℕ, ◌<◌, Bool, true, false, eqb, ltb, List, [], ◌∷◌, ◌++◌, length, Option, Some, None, refl, sym, ap, ◌∙◌, subst, ⊎_elim, append-nil}
+use Rattle.std.specs.Prelude.{◌&&◌, ◌||◌, fold}
 use Rattle.std.specs.List.{list_any}
 use Rattle.std.specs.Option.{option_and_then, is_some}
 use Rattle.std.proofs.lemmas.Bool.{eq-eqb, eqb-true, lt-ltb, or_cases, cases_eq, true≢false}
@@ -23,16 +23,19 @@ use Rattle.cdb_reader.specs.declared.plan.Plan.{Plan}
 use Rattle.cdb_reader.specs.declared.plan.Deed.TheVariants as deed
 use Rattle.cdb_reader.specs.Plan.{next}
 use Rattle.block_machine.specs.declared.entry.Entry.{Entry}
-use Rattle.block_machine.specs.declared.entry.Entry.TheVariants.{Get}
+use Rattle.block_machine.specs.declared.entry.Entry.TheVariants.{Get, Started}
 use Rattle.block_machine.specs.declared.turn.Label.TheVariants.{Work}
 use Rattle.block_machine.specs.Blocks.{is_dirty, after_get, may_get, allowed, same_value}
 use Rattle.block_machine.specs.State.{State, Duty, owed_by}
 use Rattle.block_machine.specs.Steps.{begun}
+use Rattle.block_machine.specs.Turns.{is_start}
+use Rattle.mode_pages.specs.declared.settings.Settings.{Settings}
+use Rattle.std.specs.Cmp.{signed_Decides}
 use Rattle.block_machine.proofs.Booleans.{and_both}
 use Rattle.command_engine.specs.declared.step.Recovery.{Recovery}
-use Rattle.drive_scene.specs.Scene.{Scene, capacity, recovered_by, windows_with, beat}
+use Rattle.drive_scene.specs.Scene.{Scene, Beat, capacity, settings_by, recovered_by, windows_with, beat}
 use Rattle.drive_scene.specs.Holds.{holder_besides}
-use Rattle.drive_scene.specs.Evidence.{IsGotShown}
+use Rattle.drive_scene.specs.Evidence.{IsGot, window_now, settings_now}
 use Rattle.drive_scene.specs.GoodTurn.{IsStood, IsAllowed, WritesBlockData, is_at_sector, is_on}
 use Rattle.drive_scene.specs.Present.{IsPresentMap}
 use Rattle.drive_scene.proofs.Tables.{put_at-own, put_at-other}
@@ -41,6 +44,7 @@ use Rattle.drive_scene.proofs.Tries.{no_strays-before}
 use Rattle.drive_scene.specs.Half.{Half}
 use Rattle.drive_scene.proofs.Doing.{quiet-begun}
 use Rattle.drive_scene.specs.Kinds.{AreQuietAt, got_state}
+use Rattle.drive_scene.specs.Laws.{GetsAreHalves, TriesAreHalves}
 
 -- the command at work when its turn begins
 pub begun-duty : (g : State) (c : ℕ) → (begun g (Work c)).duties c ≡ record (g.duties c) { dirty_then = g.dirty }
@@ -55,18 +59,19 @@ begun-owes g c m plan is_in owes =
 pub no_ops : (s : Scene) (b : Lba) → IsPresentMap s.map s.ops → AreQuietAt s b []
 no_ops s b present = record {
   step = refl;
-  written = All-nil (WritesBlockData s.map);
+  written = λ entries. All-nil (WritesBlockData s.map entries);
   about = λ q below is. absurd (true≢false (sym is));
   keeps = subst (λ (ops : List Op). KeepsBlocks s.map s.ops ops) (sym (append-nil s.ops)) present.finds;
 }
 
--- a try at the block's place
-pub try_ops : (s : Scene) (b : Lba) (before : ℕ) (stage : Stage) (found : Option Payload)
+-- a try at the block's place, of its own fetch
+pub try_ops : (s : Scene) (b : Lba) (before : ℕ) (stage : Stage) (found : Option Payload) → before ≡ length s.ops
     → ((q : Lba) → q.0 < capacity s → place_of s.map q ≡ place_of s.map b → q.0 ≡ b.0)
     → KeepsBlocks s.map s.ops (s.ops ++ try_of before (place_of s.map b) stage found) → AreQuietAt s b (try_of before (place_of s.map b) stage found)
-try_ops s b before stage found own keeps = record {
-  step = eq-eqb (place_of s.map b).0 (place_of s.map b).0 refl;
-  written = All-from_recursion (WritesBlockData s.map) (try_of before (place_of s.map b) stage found) (tt, (tt, tt));
+try_ops s b before stage found own_fetch own keeps = record {
+  step = and_both _ _ (and_both _ _ (eq-eqb (place_of s.map b).0 (place_of s.map b).0 refl) (eq-eqb before (length s.ops) own_fetch))
+      (and_both _ _ (eq-eqb stage.reread stage.reread refl) ((signed_Decides stage.offset stage.offset).1 refl));
+  written = λ entries. All-from_recursion (WritesBlockData s.map entries) (try_of before (place_of s.map b) stage found) (tt, (tt, tt));
   about = λ q below is. own q below (sector_is (place_of s.map q) (place_of s.map b) (either (eqb (place_of s.map b).0 (place_of s.map q).0) is));
   keeps = keeps;
 }
@@ -107,9 +112,7 @@ free_at : (s : Scene) (c : ℕ) (b q : Lba) → holder_besides s (Work c) b.0 �
 free_at s c b q free same = ap (λ (n : ℕ). holder_besides s (Work c) n) same ∙ free
 
 -- a turn without an entry
-pub half_none : (s : Scene) (c : ℕ) (m : Member) (plan : Plan) (b : Lba) (ops : List Op) → member_of s.hist.set c ≡ Some m → (s.hist.duties c).owes ≡ Some plan
-    → IsPresentMap s.map s.ops → IsStood s.map s.ops s.hist.blocks → holder_besides s (Work c) b.0 ≡ None → AreQuietAt s b ops
-    → Half s c ops [] (begun s.hist (Work c)) plan
+pub half_none : TriesAreHalves
 half_none s c m plan b ops is_in owes present stands free quiet = record {
   reached = refl;
   quiet = quiet-begun s.hist c;
@@ -117,7 +120,7 @@ half_none s c m plan b ops is_in owes present stands free quiet = record {
   lawful = refl;
   owes = begun-owes s.hist c m plan is_in owes;
   blocks = λ none. refl;
-  shown = λ rest. tt;
+  shown = λ rest none. tt;
   step = quiet.step;
   b = b;
   one_block = refl;
@@ -151,19 +154,25 @@ recovered-others : (s : Scene) (c : ℕ) (b : Lba) (v : Value) (ops : List Op) (
 recovered-others s c b (Data bytes) ops q other = put_at-other c q _ s.recovered other
 recovered-others s c b Lost ops q other = refl
 
+-- mode values stay where no command starts
+settings_kept : (now : Settings) (each : ℕ → Settings) (es : List Entry) → list_any is_start es ≡ false → fold (settings_by now) each es ≡ each
+settings_kept now each [] none = refl
+settings_kept now each (Started c ∷ es) none = absurd (true≢false none)
+settings_kept now each (e ∷ es) none = settings_kept now each es none
+
 -- a turn in which the command gets a block
-pub half_got : (s : Scene) (c : ℕ) (m : Member) (plan later : Plan) (b : Lba) (v : Value) (ops : List Op) → member_of s.hist.set c ≡ Some m
-    → (s.hist.duties c).owes ≡ Some plan → b.0 < capacity s → IsPresentMap s.map s.ops → IsStood s.map s.ops s.hist.blocks
-    → holder_besides s (Work c) b.0 ≡ None → AreQuietAt s b ops
-    → next plan (deed.Got b v (is_dirty (s.hist.blocks b.0))) ≡ Some later
-    → (strays (s.ops ++ ops) ≡ 0 → may_get (s.hist.blocks b.0) v ≡ true)
-    → (strays (s.ops ++ ops) ≡ 0 → (bytes : List ℕ) → v ≡ Data bytes → is_dirty (s.hist.blocks b.0) ≡ false → v ≡ stored s.map s.ops b)
-    → ((es : List Entry) → is_dirty (s.hist.blocks b.0) ≡ false → IsGotShown s (beat (Work c) es ops) (begun s.hist (Work c)) c b v)
-    → Half s c ops (Get c b v ∷ []) (got_state s c b v) later
+pub half_got : GetsAreHalves
 half_got s c m plan later b v ops is_in owes below present stands free quiet may allows is shown =
     let g : State = begun s.hist (Work c) in
     let owing : owed_by (begun s.hist (Work c)) c ≡ Some plan = begun-owes s.hist c m plan is_in owes in
     let duty : ((got_state s c b v).duties c).owes ≡ Some later = got-duty s c b v plan later owing may in
+    let got_shown : (rest : List Entry) → list_any is_start rest ≡ false
+    → IsGot s (window_now s (beat (Work c) (Get c b v ∷ rest) ops) c) (settings_now s (beat (Work c) (Get c b v ∷ rest) ops) c) (begun s.hist (Work c)) c b v =
+    λ rest none. let t : Beat = beat (Work c) (Get c b v ∷ rest) ops in
+    let window : s.windows c ++ ops ≡ window_now s t c = sym (put_at-own c (s.windows c ++ ops) s.windows) in
+    let settings : s.settings c ≡ settings_now s t c = sym (ap (λ (f : ℕ → Settings). f c) (settings_kept s.hist.settings s.settings rest none)) in
+    subst (λ (x : Settings). IsGot s (window_now s t c) x (begun s.hist (Work c)) c b v) settings
+    (subst (λ (w : List Op). IsGot s w (s.settings c) (begun s.hist (Work c)) c b v) window shown) in
     record {
       reached = refl;
       quiet = record {
@@ -183,11 +192,11 @@ half_got s c m plan later b v ops is_in owes below present stands free quiet may
       owes = ap (λ (o : Option Member). option_and_then (λ (x : Member). ((got_state s c b v).duties c).owes) o) is_in ∙ duty;
       blocks = λ none. and_both (ltb b.0 (capacity s) && may_get (s.hist.blocks b.0) v) true
           (and_both (ltb b.0 (capacity s)) _ (lt-ltb b.0 (capacity s) below) (allows none)) refl;
-      shown = λ rest. (shown (Get c b v ∷ rest), tt);
+      shown = λ rest none. (got_shown rest none, tt);
       step = quiet.step;
       b = b;
       one_block = and_both (eqb b.0 b.0) true (eq-eqb b.0 b.0 refl) refl;
-      written = quiet.written;
+      written = λ rest. quiet.written (Get c b v ∷ rest);
       own = and_both _ _ (eq-eqb c c refl) refl;
       order = λ reply. refl;
       held = λ q within about. free_at s c b q free (⊎_elim (λ here. sym (eqb-true b.0 q.0 (left (eqb b.0 q.0) here))) (λ there. quiet.about q within there)

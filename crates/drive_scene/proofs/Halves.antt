@@ -1,10 +1,13 @@
 -- Half a turn of work: after some entries the command owes a plan. Then it goes on, or ends.
 use Rattle.std.proofs.Common.{◌≡◌, ℕ, ◌≤◌, Bool, true, false, not, eqb, List, [], ◌∷◌, ◌++◌, length, Option, Some, None, refl, sym, ap, ◌∙◌, subst, arith, length-append}
-use Rattle.std.specs.Prelude.{◌&&◌, ◌||◌}
+use Rattle.std.specs.Prelude.{◌&&◌, ◌||◌, All}
 use Rattle.std.specs.List.{list_any}
 use Rattle.std.specs.Option.{option_and_then, is_some}
-use Rattle.std.proofs.lemmas.Bool.{eq-eqb, ne_eqb, or_right}
+use Rattle.std.proofs.lemmas.Bool.{eq-eqb, ne_eqb, or_right, true≢false}
 use Rattle.std.proofs.lemmas.List.{append-nil}
+use Rattle.std.proofs.lemmas.List.Elements.{All-head}
+use Rattle.disk_base.specs.declared.payload.Payload.{Payload}
+use Rattle.platter_model.specs.declared.op.Op.TheVariants.{Wrote}
 use Rattle.std.proofs.lemmas.List.Sums.{fold_push}
 use Rattle.std.proofs.lemmas.List.Folds.{list_any-append, list_all-append}
 use Rattle.disk_base.specs.Along.{Along, all_along}
@@ -30,14 +33,15 @@ use Rattle.block_machine.proofs.Booleans.{and_both}
 use Rattle.geometry_map.specs.DefectMap.{place_of}
 use Rattle.drive_scene.specs.Scene.{Scene, capacity, scene_after, beat}
 use Rattle.drive_scene.specs.Evidence.{Shows, IsEndShown}
-use Rattle.drive_scene.specs.GoodTurn.{GoodTurn, IsStood, is_on, is_about, is_at_sector, may_follow, rank, IsMapped}
+use Rattle.drive_scene.specs.GoodTurn.{GoodTurn, IsStood, AreTriesShown, WritesBlockData, is_on, is_about, is_at_sector, may_follow, rank, IsMapped}
 use Rattle.drive_scene.proofs.Tables.{Along-push}
 use Rattle.drive_scene.proofs.Keyed.{find-dropped_own}
 use Rattle.drive_scene.proofs.Windows.{windows_work}
 use Rattle.drive_scene.specs.Present.{IsPresentMap}
 use Rattle.cdb_reader.specs.Replies.{good}
 use Rattle.block_machine.specs.declared.turn.Label.{Label}
-use Rattle.drive_scene.specs.Half.{Half, HasRoom}
+use Rattle.drive_scene.specs.Half.{Half, IsReady}
+use Rattle.drive_scene.specs.Laws.{HalvesGoOn, HalvesEnd}
 
 -- a turn without a start
 alone : (entries : List Entry) → list_any is_start entries ≡ false → starts_alone entries ≡ true
@@ -50,8 +54,14 @@ some_of : {X Y : Type 0} (f : X → Option Y) (o : Option X) (y : Y) → option_
 some_of f None y is = absurd (cc)
 some_of f (Some x) y is = refl
 
+-- where a block is written none is tried, and its harden is an entry
+pub tries_wrote : (s : Scene) (c : ℕ) (es : List Entry) (payload : Payload) → All (WritesBlockData s.map es) (Wrote payload ∷ [])
+    → AreTriesShown s (Work c) es (Wrote payload ∷ [])
+tries_wrote s c [] payload all = absurd (true≢false (sym (All-head (WritesBlockData s.map []) (Wrote payload) [] all).1))
+tries_wrote s c (e ∷ es) payload all = refl
+
 -- the windows after it, with the entries of the half or more
-pub windows_then : (s : Scene) (c : ℕ) (ops : List Op) (entries : List Entry) (h : State) (plan : Plan) → HasRoom s c → Half s c ops entries h plan
+pub windows_then : (s : Scene) (c : ℕ) (ops : List Op) (entries : List Entry) (h : State) (plan : Plan) → IsReady s c → Half s c ops entries h plan
     → (all : List Entry) (q : ℕ) → length ((scene_after s (beat (Work c) all ops)).windows q) ≤ 50
 windows_then s c ops entries h plan room half all =
     let is_in : is_some (member_of s.hist.set c) ≡ true =
@@ -60,21 +70,21 @@ windows_then s c ops entries h plan room half all =
 
 -- the map of a scene is there after more operations
 mapped : (s : Scene) (label : Label) (entries : List Entry) (ops : List Op) → IsPresentMap s.map (s.ops ++ ops) → IsMapped (scene_after s (beat label entries ops))
-mapped s label entries ops present on readable = present.there.present
+mapped s label entries ops present on readable = (present.there.present, present.may_be)
 
 -- the command goes on, and owes work on blocks
-pub goes_on : (s : Scene) (c : ℕ) (ops : List Op) (entries : List Entry) (h : State) (plan : Plan) → HasRoom s c → IsPresentMap s.map (s.ops ++ ops)
-    → Half s c ops entries h plan → owes_nothing_now (Some plan) ≡ true → (not (eqb (length ops) 0) || not (eqb (length entries) 0)) ≡ true
-    → GoodTurn s (beat (Work c) entries ops)
-goes_on s c ops entries h plan room present half settled acts = record {
+pub goes_on : HalvesGoOn
+goes_on s c ops entries h plan room present half tries settled acts = record {
   tasks = three (starts_alone entries) _ _ (alone entries half.unstarted) half.lawful
       (ap (λ (x : State). owes_nothing_now (owed_by x c)) half.reached ∙ (ap owes_nothing_now half.owes ∙ settled));
   blocks = half.blocks;
   shown = subst (λ (es : List Entry). Along (entry_after (capacity s) (Work c)) (Shows s (beat (Work c) es ops)) (begun s.hist (Work c)) entries)
-      (append-nil entries) (half.shown []);
+      (append-nil entries) (half.shown [] refl);
+  powered = room.powered;
   step = (half.step, acts);
+  tries = tries;
   one_block = (half.b, half.one_block);
-  written = half.written;
+  written = subst (λ (es : List Entry). All (WritesBlockData s.map es) ops) (append-nil entries) (half.written []);
   own = half.own;
   order = along_first (λ before e. rank e) may_follow 0 entries (Ended c good ∷ []) (half.order good);
   window = windows_then s c ops entries h plan room half entries;
@@ -114,12 +124,8 @@ end_about s c ops entries q reply =
     (list_any-append (is_on q) entries (Ended c reply ∷ []) ∙ or_false (list_any (is_on q) entries))
 
 -- the command ends
-pub ends : (s : Scene) (c : ℕ) (ops : List Op) (entries : List Entry) (h : State) (plan later : Plan) (reply : Reply) → HasRoom s c → IsPresentMap s.map (s.ops ++ ops)
-    → Half s c ops entries h plan
-    → next plan (deed.Ended reply (names_dirty h reply)) ≡ Some later → ends_as_told (Some plan) (h.duties c) reply ≡ true
-    → IsEndShown s (beat (Work c) (entries ++ Ended c reply ∷ []) ops) c (Some plan) reply
-    → GoodTurn s (beat (Work c) (entries ++ Ended c reply ∷ []) ops)
-ends s c ops entries h plan later reply room present half may told end_shown =
+pub ends : HalvesEnd
+ends s c ops entries h plan later reply room present half tries may told end_shown =
     let step : State → Entry → State = entry_after (capacity s) (Work c) in
     let start : State = begun s.hist (Work c) in
     let more : List Entry = Ended c reply ∷ [] in
@@ -142,10 +148,12 @@ ends s c ops entries h plan later reply room present half may told end_shown =
       blocks = λ none. along_both blocks_after (block_lawful (capacity s)) s.hist.blocks entries (Ended c reply ∷ [])
           ∙ and_both _ _ (half.blocks none) refl;
       shown = Along-push (entry_after (capacity s) (Work c)) (Shows s (beat (Work c) (entries ++ Ended c reply ∷ []) ops)) (begun s.hist (Work c)) entries (Ended c reply)
-          (half.shown (Ended c reply ∷ [])) (subst Shown (sym half.reached) here);
+          (half.shown (Ended c reply ∷ []) refl) (subst Shown (sym half.reached) here);
+      powered = room.powered;
       step = (half.step, or_right _ _ (not_empty entries (Ended c reply)));
+      tries = tries;
       one_block = (half.b, list_all-append _ entries (Ended c reply ∷ []) ∙ and_both _ _ half.one_block refl);
-      written = half.written;
+      written = half.written (Ended c reply ∷ []);
       own = list_all-append _ entries (Ended c reply ∷ []) ∙ and_both _ _ half.own (and_both _ _ (eq-eqb c c refl) refl);
       order = half.order reply;
       window = windows_then s c ops entries h plan room half (entries ++ Ended c reply ∷ []);

@@ -3,7 +3,7 @@ use Rattle.std.proofs.Common.{◌≡◌, ◌≢◌, ℕ, ◌<◌, Bool, true, fa
 use Rattle.std.specs.Prelude.{◌&&◌, ◌||◌, ◌-◌, ◌==◌, slice_get, IsTrue, find, if◌then◌else◌}
 use Rattle.std.specs.List.{list_any}
 use Rattle.std.specs.Option.{option_and_then, option_map, option_map_or}
-use Rattle.std.proofs.lemmas.Bool.{eq-eqb, ne_eqb, eqb-true, cases_eq, lt-ltb}
+use Rattle.std.proofs.lemmas.Bool.{or_left, eq-eqb, ne_eqb, eqb-true, cases_eq, lt-ltb}
 use Rattle.std.proofs.lemmas.Slice.Eq.{bytes_eq-Decides}
 use Rattle.std.proofs.lemmas.List.Elements.{All-from_recursion}
 use Rattle.disk_base.specs.declared.address.Lba.{Lba}
@@ -36,11 +36,12 @@ use Rattle.block_machine.proofs.Booleans.{and_both}
 use Rattle.drive_scene.specs.declared.event.Holder.TheVariants as holder
 use Rattle.drive_scene.specs.Scene.{Scene, capacity}
 use Rattle.drive_scene.specs.Holds.{held_block, held_by_plan, holder_besides, holds}
-use Rattle.drive_scene.specs.GoodTurn.{IsStood, WritesBlockData}
+use Rattle.drive_scene.specs.GoodTurn.{IsStood, WritesBlockData, is_harden_of}
 use Rattle.drive_scene.proofs.Tables.{put_at-own, put_at-other, within_map}
 use Rattle.drive_scene.specs.Half.{Half}
 use Rattle.drive_scene.proofs.Doing.{quiet-begun, owed-begun, quiet-trans, hardened_owes, hardened_quiet, hardened_lawful}
 use Rattle.drive_scene.specs.Kinds.{IsHarden, hardened_blocks}
+use Rattle.drive_scene.specs.Laws.{HardensAreHalves}
 
 -- a block with a newest value is dirty
 some_newer : (xs : List Value) (v : Value) → slice_get xs (length xs - 1) ≡ Some v → not (eqb (length xs) 0) ≡ true
@@ -146,10 +147,7 @@ writes_newest s b bytes v is found =
     (placed s.map b bytes, (0, omega arith, refl), refl, own)
 
 -- the turn hardens the block alone
-pub half_hardened : (s : Scene) (c : ℕ) (b : Lba) (bytes : List ℕ) (plan then_plan : Plan) → IsHarden s c b bytes → owed_by s.hist c ≡ Some plan
-    → next plan (deed.Hardened b) ≡ Some then_plan
-    → Half s c (Wrote (placed s.map b bytes) ∷ []) (Harden (Command c) b ∷ [])
-    (entry_after (capacity s) (Work c) (begun s.hist (Work c)) (Harden (Command c) b)) then_plan
+pub half_hardened : HardensAreHalves
 half_hardened s c b bytes plan then_plan is owes may =
     let g : State = begun s.hist (Work c) in
     let owed : owed_by (begun s.hist (Work c)) c ≡ Some plan = owed-begun s.hist c ∙ owes in
@@ -161,11 +159,11 @@ half_hardened s c b bytes plan then_plan is owes may =
       lawful = and_both _ _ (hardened_lawful (capacity s) g c b plan then_plan owed may dirty) refl;
       owes = hardened_owes (capacity s) g c b plan then_plan owed may;
       blocks = λ none. and_both _ _ (and_both _ _ (lt-ltb b.0 (capacity s) is.below) dirty) refl;
-      shown = λ rest. ((λ v found. writes_newest s b bytes v is.newest found), tt);
+      shown = λ rest none. ((λ v found. writes_newest s b bytes v is.newest found), tt);
       step = refl;
       b = b;
       one_block = and_both _ _ (eq-eqb b.0 b.0 refl) refl;
-      written = All-from_recursion (WritesBlockData s.map) (Wrote (placed s.map b bytes) ∷ []) ((b, bytes, within_map s b is.size is.below, refl), tt);
+      written = λ rest. All-from_recursion (WritesBlockData s.map (Harden (Command c) b ∷ rest)) (Wrote (placed s.map b bytes) ∷ []) (((b, bytes, within_map s b is.size is.below, refl), or_left (eqb b.0 b.0) (list_any (is_harden_of b) rest) (eq-eqb b.0 b.0 refl)), tt);
       own = and_both _ _ (eq-eqb c c refl) refl;
       order = λ reply. refl;
       held = λ q below about. let same = written_about s b q bytes is.own_sector below about in ap (λ (n : ℕ). holder_besides s (Work c) n) same ∙ is.free;

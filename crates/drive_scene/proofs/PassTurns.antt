@@ -1,6 +1,7 @@
 -- Half a turn in which a sync passes over blocks, and may harden the one behind them.
-use Rattle.std.proofs.Common.{◌≡◌, ℕ, ◌≤◌, true, List, [], ◌∷◌, Some, refl, sym, ap, ◌∙◌, subst, arith, append-nil}
-use Rattle.std.proofs.lemmas.Bool.{eq-eqb, lt-ltb, le-leb, true≢false}
+use Rattle.std.proofs.Common.{◌≡◌, ℕ, ◌≤◌, true, List, [], ◌∷◌, Some, refl, sym, ap, ◌∙◌, subst, arith, append-nil, eqb}
+use Rattle.std.specs.List.{list_any}
+use Rattle.std.proofs.lemmas.Bool.{or_left, eq-eqb, lt-ltb, le-leb, true≢false}
 use Rattle.std.proofs.lemmas.List.Elements.{All-nil, All-from_recursion}
 use Rattle.disk_base.specs.declared.address.Lba.{Lba}
 use Rattle.disk_base.specs.declared.block.Value.TheVariants.{Data}
@@ -18,18 +19,16 @@ use Rattle.block_machine.specs.Steps.{begun, entry_after}
 use Rattle.block_machine.proofs.Booleans.{and_both}
 use Rattle.drive_scene.specs.Scene.{Scene, capacity}
 use Rattle.drive_scene.specs.Holds.{holder_besides}
-use Rattle.drive_scene.specs.GoodTurn.{IsStood, WritesBlockData}
+use Rattle.drive_scene.specs.GoodTurn.{IsStood, WritesBlockData, is_harden_of}
 use Rattle.drive_scene.specs.Half.{Half}
 use Rattle.drive_scene.proofs.Doing.{quiet-begun, owed-begun, quiet-trans, hardened_owes, hardened_quiet, hardened_lawful, passed_owes, passed_quiet, passed_lawful}
 use Rattle.drive_scene.specs.Kinds.{IsHarden, passed_state}
+use Rattle.drive_scene.specs.Laws.{PassesToHardenAreHalves, PassesAreHalves}
 use Rattle.drive_scene.proofs.HardenTurns.{dirty-newest, written_about, stood_hardened, undirtied_hardened, writes_newest}
 use Rattle.drive_scene.proofs.Tables.{within_map}
 
 -- a sync passes over the clean blocks before a dirty one and hardens that
-pub half_passed_hardened : (s : Scene) (c : ℕ) (from b : Lba) (bytes : List ℕ) (plan passed then_plan : Plan) → IsHarden s c b bytes → owed_by s.hist c ≡ Some plan
-    → next plan (deed.Passed from b) ≡ Some passed → next passed (deed.Hardened b) ≡ Some then_plan → none_dirty s.hist.blocks from.0 b.0 ≡ true
-    → Half s c (Wrote (placed s.map b bytes) ∷ []) (Passed c from b ∷ Harden (Command c) b ∷ [])
-    (entry_after (capacity s) (Work c) (passed_state s c from b) (Harden (Command c) b)) then_plan
+pub half_passed_hardened : PassesToHardenAreHalves
 half_passed_hardened s c from b bytes plan passed then_plan is owes may_pass may clean =
     let g : State = begun s.hist (Work c) in
     let h : State = passed_state s c from b in
@@ -46,11 +45,11 @@ half_passed_hardened s c from b bytes plan passed then_plan is owes may_pass may
       owes = hardened_owes (capacity s) h c b passed then_plan owed_passed may;
       blocks = λ none. and_both _ _ (and_both _ _ (le-leb b.0 (capacity s) (omega (arith, is.below))) clean)
           (and_both _ _ (and_both _ _ (lt-ltb b.0 (capacity s) is.below) dirty) refl);
-      shown = λ rest. (tt, ((λ v found. writes_newest s b bytes v is.newest found), tt));
+      shown = λ rest none. (tt, ((λ v found. writes_newest s b bytes v is.newest found), tt));
       step = refl;
       b = b;
       one_block = and_both _ _ (eq-eqb b.0 b.0 refl) refl;
-      written = All-from_recursion (WritesBlockData s.map) (Wrote (placed s.map b bytes) ∷ []) ((b, bytes, within_map s b is.size is.below, refl), tt);
+      written = λ rest. All-from_recursion (WritesBlockData s.map (Passed c from b ∷ Harden (Command c) b ∷ rest)) (Wrote (placed s.map b bytes) ∷ []) (((b, bytes, within_map s b is.size is.below, refl), or_left (eqb b.0 b.0) (list_any (is_harden_of b) rest) (eq-eqb b.0 b.0 refl)), tt);
       own = and_both _ _ (eq-eqb c c refl) (and_both _ _ (eq-eqb c c refl) refl);
       order = λ reply. refl;
       held = λ q below about. let same = written_about s b q bytes is.own_sector below about in ap (λ (n : ℕ). holder_besides s (Work c) n) same ∙ is.free;
@@ -61,9 +60,7 @@ half_passed_hardened s c from b bytes plan passed then_plan is owes may_pass may
     }
 
 -- a sync passes over the rest of its range
-pub half_passed : (s : Scene) (c : ℕ) (from to : Lba) (plan then_plan : Plan) → IsStood s.map s.ops s.hist.blocks → owed_by s.hist c ≡ Some plan
-    → next plan (deed.Passed from to) ≡ Some then_plan → to.0 ≤ capacity s → none_dirty s.hist.blocks from.0 to.0 ≡ true
-    → Half s c [] (Passed c from to ∷ []) (passed_state s c from to) then_plan
+pub half_passed : PassesAreHalves
 half_passed s c from to plan then_plan stood owes may high clean =
     let g : State = begun s.hist (Work c) in
     let owed : owed_by (begun s.hist (Work c)) c ≡ Some plan = owed-begun s.hist c ∙ owes in
@@ -74,11 +71,11 @@ half_passed s c from to plan then_plan stood owes may high clean =
       lawful = and_both _ _ (passed_lawful (capacity s) g c from to plan then_plan owed may) refl;
       owes = passed_owes (capacity s) g c from to plan then_plan owed may;
       blocks = λ none. and_both _ _ (and_both _ _ (le-leb to.0 (capacity s) high) clean) refl;
-      shown = λ rest. (tt, tt);
+      shown = λ rest none. (tt, tt);
       step = refl;
       b = from;
       one_block = refl;
-      written = All-nil (WritesBlockData s.map);
+      written = λ rest. All-nil (WritesBlockData s.map (Passed c from to ∷ rest));
       own = and_both _ _ (eq-eqb c c refl) refl;
       order = λ reply. refl;
       held = λ q below about. absurd (true≢false (sym about));

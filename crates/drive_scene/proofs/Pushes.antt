@@ -6,6 +6,7 @@ use Rattle.platter_model.specs.declared.op.Op.{Op}
 use Rattle.block_machine.specs.declared.turn.Turn.{Turn}
 use Rattle.drive_scene.specs.Scene.{Scene, Beat, scene_after, beat}
 use Rattle.drive_scene.specs.Run.{beat_of, FollowFrom}
+use Rattle.drive_scene.specs.Laws.{MapsStay}
 
 -- the turns end no earlier than they begin
 follow-up : (from to : ℕ) (turns : List Turn) → FollowFrom from turns to → from ≤ to
@@ -50,7 +51,6 @@ pub follow_push : (from to end : ℕ) (turns : List Turn) (t : Turn) → FollowF
 follow_push from to end [] t is starts ends grows = (starts ∙ sym is, omega arith, ends)
 follow_push from to end (u ∷ turns) t is starts ends grows = (is.0, is.1, follow_push u.ops_to to end turns t is.2 starts ends grows)
 
--- no turn changes the map
-pub map_stays : (s : Scene) (turns : List Beat) → (fold scene_after s turns).map ≡ s.map
-map_stays s [] = refl
+pub map_stays : MapsStay
+map_stays s [] = (refl, refl)
 map_stays s (t ∷ turns) = map_stays (scene_after s t) turns

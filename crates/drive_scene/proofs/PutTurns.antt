@@ -3,7 +3,7 @@ use Rattle.std.proofs.Common.{◌≡◌, ◌≢◌, ℕ, ◌-◌, ◌<◌, Bool,
 use Rattle.std.specs.Prelude.{◌||◌, slice_get}
 use Rattle.std.specs.List.{list_any}
 use Rattle.std.specs.Option.{is_some}
-use Rattle.std.proofs.lemmas.Bool.{eq-eqb, eqb-true, cases_eq, lt-ltb}
+use Rattle.std.proofs.lemmas.Bool.{or_left, eq-eqb, eqb-true, cases_eq, lt-ltb}
 use Rattle.std.proofs.lemmas.List.{append-nil}
 use Rattle.std.proofs.lemmas.List.Folds.{list_any-append}
 use Rattle.std.proofs.lemmas.List.Elements.{All-nil, All-from_recursion}
@@ -35,12 +35,13 @@ use Rattle.block_machine.specs.Entries.{entry_lawful}
 use Rattle.block_machine.proofs.Booleans.{and_both}
 use Rattle.drive_scene.specs.Scene.{Scene, capacity}
 use Rattle.drive_scene.specs.Holds.{holder_besides}
-use Rattle.drive_scene.specs.GoodTurn.{IsStood, WritesBlockData}
+use Rattle.drive_scene.specs.GoodTurn.{IsStood, WritesBlockData, is_harden_of}
 use Rattle.drive_scene.proofs.Tables.{put_at-own, put_at-other, within_map}
 use Rattle.drive_scene.specs.Half.{Half, IsQuiet}
 use Rattle.drive_scene.proofs.Doing.{quiet-begun, owed-begun, quiet-trans, quiet_then, owed_then, still_owed, hardened_owes, hardened_quiet, hardened_lawful}
 use Rattle.drive_scene.proofs.HardenTurns.{dirty-newest, hardened-newest, unstrayed, stood_written, not_held}
 use Rattle.drive_scene.specs.Kinds.{put_state, through_state, IsPut, IsPutThrough}
+use Rattle.drive_scene.specs.Laws.{PutsAreHalves, PutsThroughAreHalves}
 
 -- a value that is put is the newest
 last_pushed : (xs : List Value) (v : Value) → slice_get (xs ++ v ∷ []) (length (xs ++ v ∷ []) - 1) ≡ Some v
@@ -114,9 +115,7 @@ put_about b q is = by (eqb b q) refl is
     by false e is = absurd (cc)
 
 -- the turn puts the block into the cache alone
-pub half_put : (s : Scene) (c : ℕ) (b : Lba) (bytes : List ℕ) (plan then_plan : Plan) → IsPut s c b → owed_by s.hist c ≡ Some plan
-    → next plan (deed.Put b bytes (is_crowded (begun s.hist (Work c)) c b.0)) ≡ Some then_plan
-    → Half s c [] (Put c b bytes ∷ []) (put_state s c b bytes) then_plan
+pub half_put : PutsAreHalves
 half_put s c b bytes plan then_plan is owes may =
     let g : State = begun s.hist (Work c) in
     let owed : owed_by (begun s.hist (Work c)) c ≡ Some plan = owed-begun s.hist c ∙ owes in
@@ -127,11 +126,11 @@ half_put s c b bytes plan then_plan is owes may =
       lawful = and_both _ _ (put_lawful (capacity s) g c b bytes plan then_plan owed may) refl;
       owes = put_owes (capacity s) g c b bytes plan then_plan owed may;
       blocks = λ none. and_both _ _ (lt-ltb b.0 (capacity s) is.below) refl;
-      shown = λ rest. (tt, tt);
+      shown = λ rest none. (tt, tt);
       step = refl;
       b = b;
       one_block = and_both _ _ (eq-eqb b.0 b.0 refl) refl;
-      written = All-nil (WritesBlockData s.map);
+      written = λ rest. All-nil (WritesBlockData s.map (Put c b bytes ∷ rest));
       own = and_both _ _ (eq-eqb c c refl) refl;
       order = λ reply. refl;
       held = λ q below about. ap (λ (n : ℕ). holder_besides s (Work c) n) (put_about b.0 q.0 about) ∙ is.free;
@@ -183,9 +182,7 @@ through_about s b q own below is = by (eqb b.0 q.0) refl (eqb (place_of s.map b)
     by false e false f is = absurd (cc)
 
 -- the turn puts the block and writes it to its place
-pub half_through : (s : Scene) (c : ℕ) (b : Lba) (bytes : List ℕ) (plan put_plan then_plan : Plan) → IsPutThrough s c b bytes → owed_by s.hist c ≡ Some plan
-    → next plan (deed.Put b bytes (is_crowded (begun s.hist (Work c)) c b.0)) ≡ Some put_plan → next put_plan (deed.Hardened b) ≡ Some then_plan
-    → Half s c (Wrote (placed s.map b bytes) ∷ []) (Put c b bytes ∷ Harden (Command c) b ∷ []) (through_state s c b bytes) then_plan
+pub half_through : PutsThroughAreHalves
 half_through s c b bytes plan put_plan then_plan is owes may may_harden =
     let g : State = begun s.hist (Work c) in
     let h : State = put_state s c b bytes in
@@ -200,11 +197,11 @@ half_through s c b bytes plan put_plan then_plan is owes may may_harden =
           (and_both _ _ (hardened_lawful (capacity s) h c b put_plan then_plan then_owed may_harden dirty) refl);
       owes = hardened_owes (capacity s) h c b put_plan then_plan then_owed may_harden;
       blocks = λ none. and_both _ _ (lt-ltb b.0 (capacity s) is.put.below) (and_both _ _ (and_both _ _ (lt-ltb b.0 (capacity s) is.put.below) dirty) refl);
-      shown = λ rest. (tt, (λ v found. writes_put s b bytes v found, tt));
+      shown = λ rest none. (tt, (λ v found. writes_put s b bytes v found, tt));
       step = refl;
       b = b;
       one_block = and_both _ _ (eq-eqb b.0 b.0 refl) (and_both _ _ (eq-eqb b.0 b.0 refl) refl);
-      written = All-from_recursion (WritesBlockData s.map) (Wrote (placed s.map b bytes) ∷ []) ((b, bytes, within_map s b is.size is.put.below, refl), tt);
+      written = λ rest. All-from_recursion (WritesBlockData s.map (Put c b bytes ∷ Harden (Command c) b ∷ rest)) (Wrote (placed s.map b bytes) ∷ []) (((b, bytes, within_map s b is.size is.put.below, refl), or_left (eqb b.0 b.0) (list_any (is_harden_of b) rest) (eq-eqb b.0 b.0 refl)), tt);
       own = and_both _ _ (eq-eqb c c refl) (and_both _ _ (eq-eqb c c refl) refl);
       order = λ reply. refl;
       held = λ q below about. ap (λ (n : ℕ). holder_besides s (Work c) n) (through_about s b q is.own_sector below about) ∙ is.put.free;

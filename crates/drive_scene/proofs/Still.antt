@@ -1,5 +1,5 @@
 -- A turn that has no operation and is about no block.
-use Rattle.std.proofs.Common.{Bool, false, true≢false, List, [], ◌++◌, sym, ap, ◌∙◌, subst, append-nil, ℕ, ◌≤◌, length, ◌∷◌, refl}
+use Rattle.std.proofs.Common.{◌≡◌, Bool, false, true≢false, List, [], ◌++◌, sym, ap, ◌∙◌, subst, append-nil, ℕ, ◌≤◌, length, ◌∷◌, refl}
 use Rattle.std.specs.Prelude.{◌||◌}
 use Rattle.std.proofs.lemmas.List.Elements.{All-nil, All-from_recursion}
 use Rattle.platter_model.specs.declared.op.Op.{Op}
@@ -9,11 +9,13 @@ use Rattle.block_machine.specs.Blocks.{Blocks}
 use Rattle.drive_scene.specs.Scene.{Scene, beat}
 use Rattle.drive_scene.specs.Evidence.{lba}
 use Rattle.drive_scene.specs.Present.{IsPresentMap}
-use Rattle.drive_scene.specs.GoodTurn.{GoodTurn, IsStood, WritesBlockData, IsAllowed}
+use Rattle.drive_scene.specs.GoodTurn.{GoodTurn, IsStood, WritesBlockData, IsAllowed, IsStep, IsPowered, AreTriesShown}
 use Rattle.drive_scene.specs.Still.{IsStill, IsStanding}
+use Rattle.drive_scene.specs.Laws.{StillTurnsAreGood, DamageTurnsAreGood}
 use Rattle.platter_model.specs.declared.op.Op.TheVariants.{Damaged}
 use Rattle.platter_model.specs.declared.damage.Damage.{Damage}
-use Rattle.block_machine.specs.declared.turn.Label.TheVariants.{World}
+use Rattle.platter_model.specs.TrueLog.{is_off}
+use Rattle.block_machine.specs.declared.turn.Label.TheVariants.{Work, World}
 use Rattle.sector_store.specs.Stored.{KeepsBlocks}
 use Rattle.drive_scene.proofs.Tries.{no_strays-before}
 use Rattle.platter_model.specs.declared.world.World.TheVariants as world
@@ -22,8 +24,19 @@ use Rattle.platter_model.specs.declared.world.World.TheVariants as world
 pub present_still : (s : Scene) → IsPresentMap s.map s.ops → IsPresentMap s.map (s.ops ++ [])
 present_still s present = subst (λ (ops : List Op). IsPresentMap s.map ops) (sym (append-nil s.ops)) present
 
+-- a turn begins with the power on where it is on
+powered_own : (s : Scene) (label : Label) → is_off s.ops ≡ false → IsPowered s label
+powered_own s (World w) on = tt
+powered_own s label on = on
+
+-- no block is tried without an operation
+no_tries : (s : Scene) (label : Label) (entries : List Entry) → IsStep s label entries [] → AreTriesShown s label entries []
+no_tries s (Work c) [] step = absurd (true≢false (sym step.1))
+no_tries s (Work c) (e ∷ entries) step = refl
+no_tries s label entries step = tt
+
 -- it is good
-pub good_still : (s : Scene) (label : Label) (entries : List Entry) → IsStanding s → IsStill s label entries → GoodTurn s (beat label entries [])
+pub good_still : StillTurnsAreGood
 good_still s label entries standing still =
     let present : IsPresentMap s.map (s.ops ++ []) = present_still s standing.present in
     let stood : IsStood s.map (s.ops ++ []) s.hist.blocks = subst (λ (ops : List Op). IsStood s.map ops s.hist.blocks) (sym (append-nil s.ops)) standing.stands in
@@ -31,15 +44,17 @@ good_still s label entries standing still =
       tasks = still.tasks;
       blocks = λ none. still.blocks;
       shown = still.shown;
+      powered = powered_own s label standing.powered;
       step = still.step;
+      tries = no_tries s label entries still.step;
       one_block = (lba 0, still.on_one);
-      written = All-nil (WritesBlockData s.map);
+      written = All-nil (WritesBlockData s.map entries);
       own = still.own;
       order = still.order;
       window = still.windows;
       held = λ b below about. absurd (true≢false (sym about ∙ ap (λ (t : Bool). t || false) (still.on_none b)));
       stands = subst (λ (bs : Blocks). IsStood s.map (s.ops ++ []) bs) (sym still.unchanged) stood;
-      mapped = λ on readable. present.there.present;
+      mapped = λ on readable. (present.there.present, present.may_be);
     }
 
 -- what is stored stands after damage
@@ -48,19 +63,20 @@ stood_damaged s x standing kept none taken may q below =
     subst (λ v. IsAllowed s.hist.blocks q v) (sym (kept taken may q))
     (standing.stands (no_strays-before s.ops (Damaged x ∷ []) none) s.map standing.present.may_be q below)
 
-pub good_damage : (s : Scene) (x : Damage) → IsStanding s → ((q : ℕ) → length (s.windows q) ≤ 50) → KeepsBlocks s.map s.ops (s.ops ++ Damaged x ∷ [])
-    → IsPresentMap s.map (s.ops ++ Damaged x ∷ []) → GoodTurn s (beat (World (world.Damage x)) [] (Damaged x ∷ []))
+pub good_damage : DamageTurnsAreGood
 good_damage s x standing windows kept present = record {
   tasks = refl;
   blocks = λ none. refl;
   shown = tt;
+  powered = tt;
   step = (refl, refl);
+  tries = tt;
   one_block = (lba 0, refl);
-  written = All-from_recursion (WritesBlockData s.map) (Damaged x ∷ []) (tt, tt);
+  written = All-from_recursion (WritesBlockData s.map []) (Damaged x ∷ []) (tt, tt);
   own = tt;
   order = refl;
   window = windows;
   held = λ q below about. tt;
   stands = stood_damaged s x standing kept;
-  mapped = λ on readable. present.there.present;
+  mapped = λ on readable. (present.there.present, present.may_be);
 }

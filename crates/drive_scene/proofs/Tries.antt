@@ -1,11 +1,10 @@
 -- What a window shows with one try more.
-use Rattle.std.proofs.Common.{◌≡◌, ℕ, ◌+◌, ◌-◌, ◌<◌, ◌≤◌, Bool, true, false, cond, List, [], ◌∷◌, ◌++◌, length, Option, Some, None, refl, ap, ◌∙◌, subst, arith, length-append, append_assoc, ⊎_elim, inl, get_or}
-use Rattle.std.specs.Prelude.{slice_get, Contains}
+use Rattle.std.proofs.Common.{◌≡◌, ℕ, suc, ◌+◌, ◌-◌, ◌<◌, ◌≤◌, Bool, true, false, cond, List, [], ◌∷◌, ◌++◌, length, Option, Some, None, refl, ap, ◌∙◌, subst, arith, length-append, append_assoc, ⊎_elim, inl, get_or}
+use Rattle.std.specs.Prelude.{slice_get}
 use Rattle.std.specs.Option.{is_none, option_and_then}
 use Rattle.std.proofs.lemmas.Bool.{cases_lt}
 use Rattle.std.proofs.lemmas.Option.{slice_get-get_or, slice_get_within}
 use Rattle.std.proofs.lemmas.List.{get_or-append-add}
-use Rattle.std.proofs.lemmas.List.Elements.{Contains-append_left, Contains-append_right}
 use Rattle.disk_base.specs.declared.address.Lba.{Lba}
 use Rattle.disk_base.specs.declared.address.Psn.{Psn}
 use Rattle.disk_base.specs.declared.block.Value.{Value}
@@ -18,9 +17,8 @@ use Rattle.platter_model.specs.State.{State, tried}
 use Rattle.platter_model.specs.TrueLog.{attempt_of, strays, strays_from}
 use Rattle.read_recovery.specs.Stages.{Progress, stages_of, next_stage, answered}
 use Rattle.sector_store.specs.Shapes.{try_of}
-use Rattle.sector_store.specs.Tries.{FoundNothing, FoundValue}
 use Rattle.drive_scene.specs.Scene.{last_found, stage_that_found}
-use Rattle.drive_scene.specs.Evidence.{FailedBelow, FoundNowhere}
+use Rattle.drive_scene.specs.Evidence.{FailedBelow, FoundByStages, FoundNowhere}
 
 -- operations of a try, behind those before
 pub tried_ops : (x : State) (p : Psn) (stage : Stage) (found : Option Payload) → (tried x p stage found).ops ≡ x.ops ++ try_of (length x.ops) p stage found
@@ -43,49 +41,37 @@ pub length-try : (window : List Op) (before : ℕ) (p : Psn) (stage : Stage) (fo
     → length (window ++ try_of before p stage found) ≡ length window + 2
 length-try window before p stage found = length-append window (try_of before p stage found)
 
--- the try is in the window
-there : (window : List Op) (before : ℕ) (p : Psn) (stage : Stage) (found : Option Payload)
-    → Contains (window ++ try_of before p stage found) (Tried before p stage found)
-there window before p stage found = Contains-append_right window (try_of before p stage found) (Tried before p stage found) (1, omega arith, refl)
-
-pub found_nothing-here : (window : List Op) (before : ℕ) (p : Psn) (stage : Stage) → FoundNothing (window ++ try_of before p stage None) p stage
-found_nothing-here window before p stage = (before, there window before p stage None)
-
-pub found_value-here : (window : List Op) (before : ℕ) (p : Psn) (stage : Stage) (payload : Payload) (b : Lba) (v : Value) → value_for b payload ≡ v
-    → FoundValue (window ++ try_of before p stage (Some payload)) p stage b v
-found_value-here window before p stage payload b v is = (before, payload, there window before p stage (Some payload), is)
-
--- what was shown stays shown
-pub found_nothing-more : (window more : List Op) (p : Psn) (stage : Stage) → FoundNothing window p stage → FoundNothing (window ++ more) p stage
-found_nothing-more window more p stage shown = (shown.0, Contains-append_left window more (Tried shown.0 p stage None) shown.1)
-
-pub failed-more : (window more : List Op) (p : Psn) (retry n : ℕ) → FailedBelow window p retry n → FailedBelow (window ++ more) p retry n
-failed-more window more p retry n shown k stage below at = found_nothing-more window more p stage (shown k stage below at)
-
 -- one more stage failed
 pub failed-next : (window : List Op) (before : ℕ) (p : Psn) (retry n : ℕ) (stage : Stage) → slice_get (stages_of retry) n ≡ Some stage
     → FailedBelow window p retry n → FailedBelow (window ++ try_of before p stage None) p retry (n + 1)
-failed-next window before p retry n stage at shown k s below here =
-    ⊎_elim (λ less. found_nothing-more window (try_of before p stage None) p s (shown k s less here))
-    (λ last. let same : k ≡ n = omega arith in
-    let one : slice_get (stages_of retry) n ≡ Some s = subst (λ (i : ℕ). slice_get (stages_of retry) i ≡ Some s) same here in
-    let is : stage ≡ s = cc in
-    subst (λ (x : Stage). FoundNothing (window ++ try_of before p stage None) p x) is (found_nothing-here window before p stage))
-    (cases_lt k n)
+failed-next window before p retry n stage at shown =
+    let next : suc n ≡ n + 1 = omega arith in
+    subst (FailedBelow (window ++ try_of before p stage None) p retry) next (window, before, stage, at, shown, refl)
 
-none_behind : {X : Type 0} (xs : List X) (n k : ℕ) (x : X) → slice_get xs n ≡ None → slice_get xs k ≡ Some x → k < n
-none_behind xs n k x none some =
-    let within : k < length xs = slice_get_within xs k x some in
-    ⊎_elim (λ less. less) (λ (past : n ≤ k).
-    let inside : n < length xs = omega arith in
-    let is : slice_get xs n ≡ Some (get_or xs n x) = slice_get-get_or xs n x inside in
-    absurd (let never : ⊥ = cc in never)) (cases_lt k n)
+-- the stage behind those that failed found a value
+pub found-next : (window : List Op) (before : ℕ) (p : Psn) (retry n : ℕ) (stage : Stage) (payload : Payload) (b : Lba) (v : Value)
+    → slice_get (stages_of retry) n ≡ Some stage → FailedBelow window p retry n → value_for b payload ≡ v
+    → FoundByStages (window ++ try_of before p stage (Some payload)) p retry b v
+found-next window before p retry n stage payload b v at shown value = (n, window, before, stage, payload, at, shown, refl, value)
+
+-- so many there are where the last has this place
+count-last : {X : Type 0} (xs : List X) (n : ℕ) (x : X) → slice_get xs n ≡ Some x → slice_get xs (n + 1) ≡ None → n + 1 ≡ length xs
+count-last xs n x some none =
+    let within : n < length xs = slice_get_within xs n x some in
+    ⊎_elim (λ (more : n + 1 < length xs). let is : slice_get xs (n + 1) ≡ Some (get_or xs (n + 1) x) = slice_get-get_or xs (n + 1) x more in
+    absurd (let never : ⊥ = cc in never))
+    (λ (past : length xs ≤ n + 1). omega arith) (cases_lt (n + 1) (length xs))
 
 -- the last stage failed
 pub failed-all : (window : List Op) (before : ℕ) (p : Psn) (retry n : ℕ) (stage : Stage) (b : Lba) → slice_get (stages_of retry) n ≡ Some stage
     → slice_get (stages_of retry) (n + 1) ≡ None → FailedBelow window p retry n → FoundNowhere (window ++ try_of before p stage None) p retry b
 failed-all window before p retry n stage b at none shown =
-    inl (λ k s here. failed-next window before p retry n stage at shown k s (none_behind (stages_of retry) (n + 1) k s none here) here)
+    inl (subst (FailedBelow (window ++ try_of before p stage None) p retry) (count-last (stages_of retry) n stage at none)
+    (failed-next window before p retry n stage at shown))
+
+-- what was tried is empty where no stage failed
+pub none-failed : (window : List Op) (p : Psn) (retry n : ℕ) → n ≡ 0 → FailedBelow window p retry n → window ≡ []
+none-failed window p retry n none shown = subst (FailedBelow window p retry) none shown
 
 -- the stage that is tried next is the one behind those that failed
 pub next_stage-at : (p : Progress) (stage : Stage) → next_stage p ≡ Some stage → (p.found ≡ false) × (slice_get (stages_of p.retry) p.failed ≡ Some stage)
@@ -104,6 +90,16 @@ none_left p unfound none = by p.found (slice_get (stages_of p.retry) (p.failed +
     by true o e n = absurd (cc)
     by false None e n = refl
     by false (Some stage) e n = absurd (cc)
+
+-- another stage is left
+pub one_left : (p : Progress) → p.found ≡ false → is_none (next_stage (answered p false)) ≡ false → p.failed + 1 < length (stages_of p.retry)
+one_left p unfound some = by p.found (slice_get (stages_of p.retry) (p.failed + 1)) refl unfound some
+  where
+    by : (b : Bool) (o : Option Stage) → slice_get (stages_of p.retry) (p.failed + 1) ≡ o → b ≡ false → is_none (cond b None o) ≡ false
+        → p.failed + 1 < length (stages_of p.retry)
+    by true o is e n = absurd (cc)
+    by false None is e n = absurd (cc)
+    by false (Some stage) is e n = slice_get_within (stages_of p.retry) (p.failed + 1) stage is
 
 -- more operations are no fewer strays
 strays_from-append : (before xs ys : List Op) → strays_from before xs ≤ strays_from before (xs ++ ys)

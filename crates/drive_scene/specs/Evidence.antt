@@ -1,5 +1,5 @@
 -- What the operations of a turn, and those before it, show of its entries.
-use Rattle.std.specs.Prelude.{◌≡◌, ◌⊎◌, ℕ, ◌<◌, ◌&&◌, Bool, true, false, not, List, Contains, slice_get, Option, Some, Result, Ok}
+use Rattle.std.specs.Prelude.{◌≡◌, ◌⊎◌, ℕ, zero, suc, ◌<◌, ◌&&◌, Bool, true, false, not, List, [], ◌++◌, length, Contains, slice_get, Option, Some, None, Result, Ok}
 use Rattle.disk_base.specs.declared.address.Lba.{Lba}
 use Rattle.disk_base.specs.declared.address.Psn.{Psn}
 use Rattle.disk_base.specs.declared.block.Value.{Value}
@@ -14,14 +14,18 @@ use Rattle.read_recovery.specs.Stages.{stages_of}
 use Rattle.platter_model.specs.declared.op.Op.{Op}
 use Rattle.platter_model.specs.declared.op.Op.TheVariants.{Tried, WriteFailed}
 use Rattle.geometry_map.specs.DefectMap.{DefectMap, place_of}
-use Rattle.sector_store.specs.Tries.{FoundNothing, FoundValue, WritesBlock}
+use Rattle.sector_store.specs.Shapes.{try_of}
+use Rattle.sector_store.specs.Tries.{WritesBlock}
 use Rattle.defect_lists.specs.DefectData.{defect_data}
 use Rattle.cdb_reader.specs.Request.{Request, ReadDefectData}
+use Rattle.cdb_reader.specs.declared.plan.Reading as reading
 use Rattle.cdb_reader.specs.declared.plan.Plan.{Plan}
-use Rattle.cdb_reader.specs.declared.plan.Plan.TheVariants.{Reading, Writing, Syncing}
+use Rattle.cdb_reader.specs.declared.plan.Plan.TheVariants.{Reading, Writing, Syncing, Moving}
+use Rattle.cdb_reader.specs.Replies.{medium_error}
 use Rattle.command_engine.specs.Ending.{report_of}
 use Rattle.block_machine.specs.declared.entry.Entry.{Entry}
-use Rattle.block_machine.specs.declared.entry.Entry.TheVariants.{Get, Put, Harden, Page, Ended, Scanned}
+use Rattle.block_machine.specs.declared.entry.Entry.TheVariants.{Get, Put, Harden, GiveUp, Page, Ended, Scanned, Logged, Cut, PoweredOn, Blank, Fresh}
+use Rattle.block_machine.specs.declared.entry.Who.TheVariants.{Command, Drive}
 use Rattle.block_machine.specs.Blocks.{is_dirty, newest}
 use Rattle.block_machine.specs.State.{State, owed_by}
 use Rattle.drive_scene.specs.Scene.{Scene, Beat, windows_with, scene_after}
@@ -34,21 +38,29 @@ lba b = record { 0 = b }
 abbrev pub window_now : Scene → Beat → ℕ → List Op
 window_now s t c = windows_with t.label s.windows t.ops c
 
--- the stages of a retry count before one of them found nothing at a sector
+-- the window of a command behind the turn's entries: none of the turn's operations where it got, put or hardened a block, or started
+abbrev pub window_behind : Scene → Beat → ℕ → List Op
+window_behind s t c = (scene_after s t).windows c
+
+-- the mode values with which a command started, be it in this turn
+abbrev pub settings_now : Scene → Beat → ℕ → Settings
+settings_now s t c = (scene_after s t).settings c
+
+-- a window is, as a list, the fetch and the try of each of the first stages of a retry count at a sector, which found nothing
 abbrev pub FailedBelow : List Op → Psn → ℕ → ℕ → Type 0
-FailedBelow window p retry n =
-    (k : ℕ) (stage : Stage) → k < n → slice_get (stages_of retry) k ≡ Some stage → FoundNothing window p stage
+FailedBelow window p retry zero = window ≡ []
+FailedBelow window p retry (suc n) = (earlier : List Op) × (before : ℕ) × (stage : Stage) × (slice_get (stages_of retry) n ≡ Some stage)
+    × FailedBelow earlier p retry n × (window ≡ earlier ++ try_of before p stage None)
 
--- a stage found a value of a block there, and those before it nothing
+-- and then the try of one stage more, which found a value of a block
 abbrev pub FoundByStages : List Op → Psn → ℕ → Lba → Value → Type 0
-FoundByStages window p retry b v = (n : ℕ) × (stage : Stage) × (slice_get (stages_of retry) n ≡ Some stage)
-    × FoundValue window p stage b v × FailedBelow window p retry n
+FoundByStages window p retry b v = (n : ℕ) × (earlier : List Op) × (before : ℕ) × (stage : Stage) × (payload : Payload)
+    × (slice_get (stages_of retry) n ≡ Some stage) × FailedBelow earlier p retry n
+    × (window ≡ earlier ++ try_of before p stage (Some payload)) × (value_for b payload ≡ v)
 
--- each stage found nothing there, or one found that the block is lost
+-- all stages found nothing there, or one found that the block is lost
 abbrev pub FoundNowhere : List Op → Psn → ℕ → Lba → Type 0
-FoundNowhere window p retry b =
-    ((k : ℕ) (stage : Stage) → slice_get (stages_of retry) k ≡ Some stage → FoundNothing window p stage)
-    ⊎ ((stage : Stage) × FoundValue window p stage b Lost)
+FoundNowhere window p retry b = FailedBelow window p retry (length (stages_of retry)) ⊎ FoundByStages window p retry b Lost
 
 -- a value of a block is known since the power came on: it was put, or a try found it
 abbrev pub IsKnown : List Entry → List Op → Lba → Value → Type 0
@@ -62,23 +74,36 @@ may_use_cache settings (Some (Reading r)) = not r.through && not settings.rcd
 may_use_cache settings plan = false
 
 -- a command gets a value of a block that isn't dirty
-abbrev pub IsGotShown : Scene → Beat → State → ℕ → Lba → Value → Type 0
-IsGotShown s t h c b (Data bytes) =
-    FoundByStages (window_now s t c) (place_of s.map b) (s.settings c).retry b (Data bytes)
-    ⊎ ((may_use_cache (s.settings c) (owed_by h c) ≡ true) × IsKnown s.entries s.since b (Data bytes))
-IsGotShown s t h c b Lost = FoundNowhere (window_now s t c) (place_of s.map b) (s.settings c).retry b
+abbrev pub IsGotShown : Scene → List Op → Settings → State → ℕ → Lba → Value → Type 0
+IsGotShown s window settings h c b (Data bytes) =
+    FoundByStages window (place_of s.map b) settings.retry b (Data bytes)
+    ⊎ ((window ≡ []) × (may_use_cache settings (owed_by h c) ≡ true) × IsKnown s.entries s.since b (Data bytes))
+IsGotShown s window settings h c b Lost = FoundNowhere window (place_of s.map b) settings.retry b
 
--- a write of a block failed, and AWRE is 0 (SBC-3, read-write error recovery mode page)
-abbrev pub FailedToWrite : Scene → Beat → ℕ → ℕ → Type 0
-FailedToWrite s t c b = Contains (window_now s t c) (WriteFailed (place_of s.map (lba b))) × ((s.settings c).awre ≡ false)
+-- the newest value of a dirty block comes from the cache alone
+abbrev pub IsGot : Scene → List Op → Settings → State → ℕ → Lba → Value → Type 0
+IsGot s window settings h c b v = (is_dirty (h.blocks b.0) ≡ true → window ≡ [])
+    × (is_dirty (h.blocks b.0) ≡ false → IsGotShown s window settings h c b v)
+
+-- a command that needs a block tries it at its next stage, which isn't the last, and finds nothing
+abbrev pub IsNextTry : Scene → ℕ → List Op → Type 0
+IsNextTry s c ops = (r : reading.Reading) × (n : ℕ) × (owed_by s.hist c ≡ Some (Reading r)) × (r.at < r.end) × (is_dirty (s.hist.blocks r.at) ≡ false)
+    × (n < length (stages_of (s.settings c).retry)) × FailedBelow (s.windows c ++ ops) (place_of s.map (lba r.at)) (s.settings c).retry n
+
+-- a command ends with WRITE ERROR at a block: a write of it failed, and AWRE is 0 (SBC-3, read-write error recovery mode page).
+-- AUTO REALLOCATION FAILED comes with AWRE 1 and no spare left, and not yet
+abbrev pub FailedToWrite : Scene → Beat → ℕ → ℕ → Reply → Type 0
+FailedToWrite s t c b reply = (reply ≡ medium_error 0x0C 0x00 b) × Contains (window_behind s t c) (WriteFailed (place_of s.map (lba b)))
+    × ((settings_now s t c).awre ≡ false)
 
 -- a command ends while it owes a plan: a read with all its blocks tells the last one that was found past the plain read, where
--- that is to be reported; and one that isn't at its end failed to write
+-- that is to be reported; and one that isn't at its end failed to write. No command that moves blocks comes yet
 abbrev pub IsEndShown : Scene → Beat → ℕ → Option Plan → Reply → Type 0
 IsEndShown s t c (Some (Reading r)) reply =
-    (r.at ≡ r.end → reply ≡ report_of r.reports ((scene_after s t).recovered c)) × (r.at < r.end → FailedToWrite s t c r.at)
-IsEndShown s t c (Some (Writing w)) reply = w.at < w.end → FailedToWrite s t c w.at
-IsEndShown s t c (Some (Syncing y)) reply = y.at < y.end → FailedToWrite s t c y.at
+    (r.at ≡ r.end → reply ≡ report_of r.reports ((scene_after s t).recovered c)) × (r.at < r.end → FailedToWrite s t c r.at reply)
+IsEndShown s t c (Some (Writing w)) reply = w.at < w.end → FailedToWrite s t c w.at reply
+IsEndShown s t c (Some (Syncing y)) reply = y.at < y.end → FailedToWrite s t c y.at reply
+IsEndShown s t c (Some (Moving m)) reply = ⊥
 IsEndShown s t c plan reply = Unit {0}
 
 -- the data of a command whose plan has these: those of READ DEFECT DATA are the defects of the map (SBC-3)
@@ -89,10 +114,17 @@ page_of m asks planned = planned
 
 -- what a turn's operations show of one of its entries, from the state before that entry
 abbrev pub Shows : Scene → Beat → State → Entry → Type 0
-Shows s t h (Get c b v) = is_dirty (h.blocks b.0) ≡ false → IsGotShown s t h c b v
-Shows s t h (Harden who b) = (v : Value) → newest (h.blocks b.0) ≡ Some v → WritesBlock s.map b v t.ops
+Shows s t h (Get c b v) = IsGot s (window_now s t c) (settings_now s t c) h c b v
+Shows s t h (Harden (Command c) b) = (v : Value) → newest (h.blocks b.0) ≡ Some v → WritesBlock s.map b v t.ops
 Shows s t h (Page c bytes) = bytes ≡ page_of s.map (h.duties c).asks bytes
 Shows s t h (Ended c reply) = IsEndShown s t c (owed_by h c) reply
--- nothing is scanned yet
+-- no move, scan, cut or format comes yet
+Shows s t h (Harden Drive b) = ⊥
+Shows s t h (GiveUp b) = ⊥
 Shows s t h (Scanned b what) = ⊥
+Shows s t h (Logged finding) = ⊥
+Shows s t h Cut = ⊥
+Shows s t h (PoweredOn outcome) = ⊥
+Shows s t h (Blank c) = ⊥
+Shows s t h (Fresh c) = ⊥
 Shows s t h other = Unit {0}

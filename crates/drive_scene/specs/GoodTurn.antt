@@ -1,6 +1,7 @@
 -- What is said of one turn.
 use Rattle.std.specs.Prelude.{◌≡◌, ℕ, ◌<◌, ◌≤◌, ◌==◌, ◌&&◌, ◌||◌, not, nat_lt, Bool, true, false, IsTrue, if◌then◌else◌, List, [], ◌∷◌, ◌++◌, length, Option, Some, None, All}
 use Rattle.std.specs.List.{list_any, list_all}
+use Rattle.std.specs.Ordering.{int_eq}
 use Rattle.std.specs.Option.{option_map_or}
 use Rattle.disk_base.specs.Along.{Along, all_along}
 use Rattle.disk_base.specs.declared.address.Lba.{Lba}
@@ -11,12 +12,14 @@ use Rattle.platter_model.specs.declared.op.Op.{Op}
 use Rattle.platter_model.specs.declared.op.Op.TheVariants as op
 use Rattle.platter_model.specs.declared.world.World.{World}
 use Rattle.platter_model.specs.declared.world.World.TheVariants as world
+use Rattle.disk_base.specs.declared.stage.Stage.{Stage}
+use Rattle.platter_model.specs.declared.damage.Attempt.{Attempt}
 use Rattle.platter_model.specs.TrueLog.{is_off, strays}
 use Rattle.geometry_map.specs.DefectMap.{DefectMap, place_of}
 use Rattle.geometry_map.specs.Size.{capacity_of}
 use Rattle.sector_store.specs.State.{placed}
 use Rattle.sector_store.specs.Stored.{Stands}
-use Rattle.sector_store.specs.Maps.{meant_on}
+use Rattle.sector_store.specs.Maps.{MayBeRecovered, meant_on}
 use Rattle.map_generations.specs.SafeMaps.{IsPresent}
 use Rattle.block_machine.specs.declared.entry.Entry.{Entry}
 use Rattle.block_machine.specs.declared.entry.Entry.TheVariants.{Get, Put, Harden, GiveUp}
@@ -29,7 +32,7 @@ use Rattle.block_machine.specs.Blocks.{Blocks, allowed, same_value}
 use Rattle.block_machine.specs.Steps.{begun, entry_after}
 use Rattle.block_machine.specs.Turns.{entries_lawful, blocks_lawful}
 use Rattle.drive_scene.specs.Scene.{Scene, Beat, capacity, scene_after}
-use Rattle.drive_scene.specs.Evidence.{Shows}
+use Rattle.drive_scene.specs.Evidence.{Shows, IsNextTry}
 use Rattle.drive_scene.specs.Holds.{holder_besides}
 
 -- while no operation is a stray, each map that recovery may take has for each block a value that the history allows it
@@ -70,35 +73,64 @@ sector_tried other = None
 abbrev pub is_at_sector : Psn → Op → Bool
 is_at_sector p o = option_map_or (λ q. q.0 == p.0) (sector_tried o) false
 
--- at most one fetch with its try, or one write
-abbrev pub is_one_step : List Op → Bool
-is_one_step [] = true
-is_one_step (op.Fetched p attempt ∷ op.Tried at q stage found ∷ []) = p.0 == q.0
-is_one_step (op.Wrote payload ∷ []) = true
-is_one_step (op.WriteFailed p ∷ []) = true
-is_one_step (op.Torn payload tear ∷ op.Cut ∷ []) = true
-is_one_step other = false
+-- a sector is fetched as a stage reads it
+abbrev pub is_attempt_of : Attempt → Stage → Bool
+is_attempt_of attempt stage = attempt.reread == stage.reread && int_eq attempt.offset stage.offset
+
+-- after so many operations at most one fetch with its own try, or one write
+abbrev pub is_one_step : ℕ → List Op → Bool
+is_one_step before [] = true
+is_one_step before (op.Fetched p attempt ∷ op.Tried at q stage found ∷ []) = p.0 == q.0 && at == before && is_attempt_of attempt stage
+is_one_step before (op.Wrote payload ∷ []) = true
+is_one_step before (op.WriteFailed p ∷ []) = true
+is_one_step before other = false
 
 -- the operations and entries of what happens from outside, while the power is off or on; minutes are counted while it is on, and
--- of power nothing is said yet
+-- no power cut comes yet
 abbrev pub IsWorldStep : Bool → World → List Entry → List Op → Type 0
 IsWorldStep off (world.Damage d) entries ops = (entries ≡ []) × (ops ≡ op.Damaged d ∷ [])
 IsWorldStep off (world.Fault p) entries ops = (entries ≡ []) × (ops ≡ op.Faulty p ∷ [])
 IsWorldStep off (world.Arm k tear) entries ops = (entries ≡ []) × (ops ≡ [])
 IsWorldStep off (world.Minutes n) entries ops = (entries ≡ (if off then [] else entry.Tick n ∷ [])) × (ops ≡ [])
-IsWorldStep off other entries ops = Unit {0}
+IsWorldStep off world.Cut entries ops = ⊥
+IsWorldStep off world.Power entries ops = ⊥
 
--- a turn's operations are those of one step, and it isn't empty
-abbrev pub IsStep : Bool → Label → List Entry → List Op → Type 0
-IsStep off (Arrive i) entries ops = ops ≡ []
-IsStep off (label.World w) entries ops = IsWorldStep off w entries ops
-IsStep off other entries ops = IsTrue (is_one_step ops) × IsTrue (not (length ops == 0) || not (length entries == 0))
+-- a turn's operations are those of one step, and it isn't empty; no move, scan or destage comes yet
+abbrev pub IsStep : Scene → Label → List Entry → List Op → Type 0
+IsStep s (Arrive i) entries ops = ops ≡ []
+IsStep s (label.World w) entries ops = IsWorldStep (is_off s.ops) w entries ops
+IsStep s (Work c) entries ops = IsTrue (is_one_step (length s.ops) ops) × IsTrue (not (length ops == 0) || not (length entries == 0))
+IsStep s (label.Job j) entries ops = ⊥
+IsStep s label.Scan entries ops = ⊥
+IsStep s label.Destage entries ops = ⊥
+
+-- a turn begins with the power on, but for what happens from outside
+abbrev pub IsPowered : Scene → Label → Type 0
+IsPowered s (label.World w) = Unit {0}
+IsPowered s own = is_off s.ops ≡ false
+
+abbrev pub is_try : Op → Bool
+is_try (op.Tried at p stage found) = true
+is_try other = false
+
+abbrev pub is_get : Entry → Bool
+is_get (Get c b v) = true
+is_get other = false
+
+-- a turn of work in which a block is tried gets it, or has no entry: then it is the next try of what its command needs
+abbrev pub AreTriesShown : Scene → Label → List Entry → List Op → Type 0
+AreTriesShown s (Work c) [] ops = IsNextTry s c ops
+AreTriesShown s (Work c) entries ops = IsTrue (not (list_any is_try ops) || list_any is_get entries)
+AreTriesShown s label entries ops = Unit {0}
 
 -- nobody else holds a block when a turn of the drive's own begins: nothing that comes from outside is about a block
 abbrev pub IsFree : Scene → Label → Lba → Type 0
 IsFree s (Arrive i) b = Unit {0}
 IsFree s (label.World w) b = Unit {0}
-IsFree s own b = holder_besides s own b.0 ≡ None
+IsFree s (Work c) b = holder_besides s (Work c) b.0 ≡ None
+IsFree s (label.Job j) b = ⊥
+IsFree s label.Scan b = ⊥
+IsFree s label.Destage b = ⊥
 
 -- the turn has an entry on a block, or an operation at its place
 abbrev pub is_about : Scene → Beat → Lba → Bool
@@ -146,24 +178,33 @@ may_follow before e = nat_lt before (rank e) || (before == 2 && rank e == 2)
 abbrev pub are_in_order : List Entry → Bool
 are_in_order entries = all_along (λ before e. rank e) may_follow 0 entries
 
--- while the power is on and the map isn't corrupt, the scene's map stands whole in its slot, with an older one in the other
+-- while the power is on and the map isn't corrupt, the scene's map stands whole in its slot, with an older one in the other, and
+-- recovery may take it
 abbrev pub IsMapped : Scene → Type 0
-IsMapped s = is_off s.ops ≡ false → s.hist.corrupt ≡ false → IsPresent (meant_on s.ops) s.map
+IsMapped s = is_off s.ops ≡ false → s.hist.corrupt ≡ false → IsPresent (meant_on s.ops) s.map × MayBeRecovered s.map.size s.ops s.map
 
 -- a turn of work has entries of its command alone
 abbrev pub AreOwn : Label → List Entry → Type 0
 AreOwn (Work c) entries = IsTrue (list_all (is_entry_of c) entries)
-AreOwn label entries = Unit {0}
+AreOwn (Arrive i) entries = Unit {0}
+AreOwn (label.World w) entries = Unit {0}
+AreOwn (label.Job j) entries = ⊥
+AreOwn label.Scan entries = ⊥
+AreOwn label.Destage entries = ⊥
 
 -- a payload is the data of one of the map's blocks, for its place
 abbrev pub IsBlockData : DefectMap → Payload → Type 0
 IsBlockData m payload = (b : Lba) × (bytes : List ℕ) × (b.0 < capacity_of m.size) × (payload ≡ placed m b bytes)
 
--- an operation that writes a sector, also one that is torn, writes a block's own data to its place
-abbrev pub WritesBlockData : DefectMap → Op → Type 0
-WritesBlockData m (op.Wrote payload) = IsBlockData m payload
-WritesBlockData m (op.Torn payload tear) = IsBlockData m payload
-WritesBlockData m other = Unit {0}
+abbrev pub is_harden_of : Lba → Entry → Bool
+is_harden_of b (Harden who q) = q.0 == b.0
+is_harden_of b other = false
+
+-- an operation that writes a sector writes a block's own data to its place, beside the entry that hardens the block; none is torn yet
+abbrev pub WritesBlockData : DefectMap → List Entry → Op → Type 0
+WritesBlockData m entries (op.Wrote payload) = (own : IsBlockData m payload) × IsTrue (list_any (is_harden_of own.0) entries)
+WritesBlockData m entries (op.Torn payload tear) = ⊥
+WritesBlockData m entries other = Unit {0}
 
 -- two operations for each of the 25 stages that the greatest retry count has
 abbrev pub window_at_most : ℕ
@@ -175,10 +216,12 @@ pub record GoodTurn (s : Scene) (t : Beat) : Type 0 where
   -- and as far as blocks go, while no operation is a stray
   pub blocks : strays (s.ops ++ t.ops) ≡ 0 → IsTrue (blocks_lawful (capacity s) s.hist.blocks t.entries)
   pub shown : Along (entry_after (capacity s) t.label) (Shows s t) (begun s.hist t.label) t.entries
-  pub step : IsStep (is_off s.ops) t.label t.entries t.ops
+  pub powered : IsPowered s t.label
+  pub step : IsStep s t.label t.entries t.ops
+  pub tries : AreTriesShown s t.label t.entries t.ops
   pub one_block : IsOnOneBlock t.entries
-  -- nothing but blocks' data is written, each to its place
-  pub written : All (WritesBlockData s.map) t.ops
+  -- nothing but blocks' data is written, each to its place beside its harden
+  pub written : All (WritesBlockData s.map t.entries) t.ops
   pub own : AreOwn t.label t.entries
   pub order : IsTrue (are_in_order t.entries)
   -- no window is longer than the tries of all stages

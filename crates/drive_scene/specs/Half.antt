@@ -5,7 +5,7 @@ use Rattle.std.specs.Option.{is_some}
 use Rattle.disk_base.specs.Along.{Along, all_along}
 use Rattle.disk_base.specs.declared.address.Lba.{Lba}
 use Rattle.platter_model.specs.declared.op.Op.{Op}
-use Rattle.platter_model.specs.TrueLog.{strays}
+use Rattle.platter_model.specs.TrueLog.{is_off, strays}
 use Rattle.sense_data.specs.declared.reply.Reply.{Reply}
 use Rattle.task_set.specs.Members.{member_of}
 use Rattle.cdb_reader.specs.declared.plan.Plan.{Plan}
@@ -42,12 +42,12 @@ pub record Half (s : Scene) (c : ℕ) (ops : List Op) (entries : List Entry) (h 
   pub lawful : all_along (entry_after (capacity s) (Work c)) (entry_lawful (capacity s) (Work c)) (begun s.hist (Work c)) entries ≡ true
   pub owes : owed_by h c ≡ Some plan
   pub blocks : strays (s.ops ++ ops) ≡ 0 → blocks_lawful (capacity s) s.hist.blocks entries ≡ true
-  pub shown : (rest : List Entry)
+  pub shown : (rest : List Entry) → list_any is_start rest ≡ false
       → Along (entry_after (capacity s) (Work c)) (Shows s (beat (Work c) (entries ++ rest) ops)) (begun s.hist (Work c)) entries
-  pub step : is_one_step ops ≡ true
+  pub step : is_one_step (length s.ops) ops ≡ true
   pub b : Lba
   pub one_block : are_on b entries ≡ true
-  pub written : All (WritesBlockData s.map) ops
+  pub written : (rest : List Entry) → All (WritesBlockData s.map (entries ++ rest)) ops
   pub own : list_all (is_entry_of c) entries ≡ true
   pub order : (reply : Reply) → are_in_order (entries ++ Ended c reply ∷ []) ≡ true
   pub held : (q : Lba) → q.0 < capacity s → is_about s (beat (Work c) entries ops) q ≡ true → holder_besides s (Work c) q.0 ≡ None
@@ -57,7 +57,8 @@ pub record Half (s : Scene) (c : ℕ) (ops : List Op) (entries : List Entry) (h 
   -- the blocks that others hold are dirty where they were
   pub undirtied : (q n : ℕ) → q ≢ c → held_block s q ≡ Some n → is_dirty (h.blocks n) ≡ is_dirty (s.hist.blocks n)
 
--- where a command is in, its window has room for the operations of one turn more
-pub record HasRoom (s : Scene) (c : ℕ) : Type 0 where
+-- the power is on, and the window of the command, where it is in, has room for the operations of one turn more
+pub record IsReady (s : Scene) (c : ℕ) : Type 0 where
+  pub powered : is_off s.ops ≡ false
   pub own : is_some (member_of s.hist.set c) ≡ true → length (s.windows c) ≤ 48
   pub all : (q : ℕ) → length (s.windows q) ≤ 50

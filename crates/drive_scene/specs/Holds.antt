@@ -13,9 +13,12 @@ use Rattle.block_machine.specs.declared.turn.Label.TheVariants.{Work}
 use Rattle.drive_scene.specs.declared.event.Holder.{Holder}
 use Rattle.drive_scene.specs.declared.event.Holder.TheVariants.{Command}
 
--- the block that a plan holds: it was tried or hardened, and isn't got yet
+-- the block that a plan holds: a read tried or hardened it, and didn't get it yet; a write put it and owes its harden; or a write of
+-- it failed, be it for a write or for a sync
 abbrev pub held_by_plan : List Op → Plan → Option ℕ
 held_by_plan window (Reading r) = if not (length window == 0) || r.hardened then Some r.at else None
+held_by_plan window (Writing w) = if (not (length window == 0) || w.owes_harden) && nat_lt w.at w.end then Some w.at else None
+held_by_plan window (Syncing y) = if not (length window == 0) && nat_lt y.at y.end then Some y.at else None
 held_by_plan window plan = None
 
 -- the block that a command holds

@@ -1,5 +1,5 @@
 -- The kinds of turns: when each may come, and the history after it.
-use Rattle.std.specs.Prelude.{◌≡◌, ℕ, ◌<◌, true, List, [], ◌∷◌, ◌++◌, Some, None, All}
+use Rattle.std.specs.Prelude.{◌≡◌, ℕ, ◌<◌, true, List, [], ◌∷◌, ◌++◌, length, Some, None, All}
 use Rattle.std.specs.List.{list_any}
 use Rattle.disk_base.specs.At.{put_at}
 use Rattle.disk_base.specs.declared.address.Lba.{Lba}
@@ -11,14 +11,15 @@ use Rattle.geometry_map.specs.DefectMap.{place_of}
 use Rattle.sector_store.specs.Maps.{MayBeRecovered}
 use Rattle.sector_store.specs.Stored.{StoresAt, KeepsOthers, KeepsBlocks}
 use Rattle.sector_store.specs.State.{placed}
+use Rattle.block_machine.specs.declared.entry.Entry.{Entry}
 use Rattle.block_machine.specs.declared.entry.Entry.TheVariants.{Harden, Put, Passed, Get}
 use Rattle.block_machine.specs.declared.entry.Who.TheVariants.{Command}
 use Rattle.block_machine.specs.declared.turn.Label.TheVariants.{Work}
-use Rattle.block_machine.specs.Blocks.{Blocks, newest, allowed, after_harden}
+use Rattle.block_machine.specs.Blocks.{Blocks, newest, after_harden}
 use Rattle.block_machine.specs.State.{State}
 use Rattle.block_machine.specs.Steps.{begun, entry_after}
 use Rattle.drive_scene.specs.Scene.{Scene, capacity}
-use Rattle.drive_scene.specs.Holds.{holder_besides, holds}
+use Rattle.drive_scene.specs.Holds.{holder_besides}
 use Rattle.drive_scene.specs.GoodTurn.{IsStood, WritesBlockData, is_at_sector, is_one_step}
 
 -- a command hardens a block of which these are the newest data: nobody else holds it, what stands is what is allowed, and the write
@@ -68,8 +69,8 @@ passed_state s c from to = entry_after (capacity s) (Work c) (begun s.hist (Work
 
 -- operations of a turn about a block that write nothing
 pub record AreQuietAt (s : Scene) (b : Lba) (ops : List Op) : Type 0 where
-  pub step : is_one_step ops ≡ true
-  pub written : All (WritesBlockData s.map) ops
+  pub step : is_one_step (length s.ops) ops ≡ true
+  pub written : (entries : List Entry) → All (WritesBlockData s.map entries) ops
   pub about : (q : Lba) → q.0 < capacity s → list_any (is_at_sector (place_of s.map q)) ops ≡ true → q.0 ≡ b.0
   pub keeps : KeepsBlocks s.map s.ops (s.ops ++ ops)
 

@@ -1,33 +1,29 @@
 -- What contracts see of a drive: all that it did.
 use Rattle.std.specs.Prelude.{◌≡◌, ℕ, ◌≤◌, List, [], ◌∷◌, length, map, fold, slice_range}
 use Rattle.disk_base.specs.Along.{Along}
-use Rattle.disk_base.specs.declared.address.Psn.{Psn}
 use Rattle.platter_model.specs.declared.op.Op.{Op}
 use Rattle.platter_model.specs.TrueLog.{IsTrueLog}
-use Rattle.geometry_map.specs.declared.size.Size.{Size}
 use Rattle.geometry_map.specs.DefectMap.{IsValidMap, factory_map}
 use Rattle.sector_store.specs.State.{Contained}
 use Rattle.block_machine.specs.declared.turn.Turn.{Turn}
+use Rattle.drive_scene.specs.declared.made.Made.{Made}
 use Rattle.drive_scene.specs.Scene.{Scene, Beat, scene_at_start, scene_after, factory_ops}
 use Rattle.drive_scene.specs.GoodTurn.{GoodTurn}
 
--- the drive's measures and its bad sectors from the factory, its turns, the operations of its platter, and how many arrivals are
--- still expected
+-- what the factory was told, the drive's turns, the operations of its platter, and how many arrivals are still expected
 pub record Run : Type 0 where
-  pub size : Size
-  pub primary : List Psn
+  pub made : Made
   pub turns : List Turn
   pub ops : List Op
   pub coming : ℕ
 
 -- a drive from the factory
-abbrev pub run_at_start : Size → List Psn → Run
-run_at_start size primary = record { size = size; primary = primary; turns = []; ops = factory_ops size primary; coming = 0 }
+abbrev pub run_at_start : Made → Run
+run_at_start made = record { made = made; turns = []; ops = factory_ops made; coming = 0 }
 
 -- the run of a drive with a store
-abbrev pub run_of : Contained → List Turn → ℕ → Run
-run_of store turns coming =
-    record { size = store.map.size; primary = store.map.primary; turns = turns; ops = store.platter.ops; coming = coming }
+abbrev pub run_of : Made → Contained → List Turn → ℕ → Run
+run_of made store turns coming = record { made = made; turns = turns; ops = store.platter.ops; coming = coming }
 
 -- a turn with its own operations
 abbrev pub beat_of : List Op → Turn → Beat
@@ -40,13 +36,13 @@ FollowFrom from (turn ∷ turns) to = (turn.ops_from ≡ from) × (from ≤ turn
 
 -- what the turns of a run have come to
 abbrev pub scene_of : Run → Scene
-scene_of r = fold scene_after (scene_at_start r.size r.primary) (map (beat_of r.ops) r.turns)
+scene_of r = fold scene_after (scene_at_start r.made) (map (beat_of r.ops) r.turns)
 
 -- what is said of a run: its map from the factory is valid, the operations begin with the factory's and each turn has its own, they
 -- are a true log, and each turn is good
 pub record IsGoodRun (r : Run) : Type 0 where
-  pub valid : IsValidMap (factory_map r.size r.primary)
-  pub follow : FollowFrom (length (factory_ops r.size r.primary)) r.turns (length r.ops)
+  pub valid : IsValidMap (factory_map r.made.size r.made.primary)
+  pub follow : FollowFrom (length (factory_ops r.made)) r.turns (length r.ops)
   pub own : (scene_of r).ops ≡ r.ops
   pub log : IsTrueLog r.ops
-  pub good : Along scene_after GoodTurn (scene_at_start r.size r.primary) (map (beat_of r.ops) r.turns)
+  pub good : Along scene_after GoodTurn (scene_at_start r.made) (map (beat_of r.ops) r.turns)

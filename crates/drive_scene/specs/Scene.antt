@@ -4,7 +4,6 @@ use Rattle.std.specs.List.{list_any}
 use Rattle.std.specs.Option.{option_map_or, option_and_then}
 use Rattle.disk_base.specs.At.{put_at}
 use Rattle.disk_base.specs.declared.address.Lba.{Lba}
-use Rattle.disk_base.specs.declared.address.Psn.{Psn}
 use Rattle.disk_base.specs.declared.block.Value.TheVariants.{Data}
 use Rattle.disk_base.specs.declared.stage.Stage.{Stage}
 use Rattle.mode_pages.specs.declared.settings.Settings.{Settings}
@@ -20,10 +19,11 @@ use Rattle.block_machine.specs.declared.entry.Entry.{Entry}
 use Rattle.block_machine.specs.declared.entry.Entry.TheVariants.{Arrived, Started, Get, Put, Harden}
 use Rattle.block_machine.specs.declared.entry.Who.TheVariants.{Command}
 use Rattle.block_machine.specs.declared.turn.Label.{Label}
-use Rattle.block_machine.specs.declared.turn.Label.TheVariants.{Arrive, Work}
+use Rattle.block_machine.specs.declared.turn.Label.TheVariants.{Arrive, Work, Job, Scan, Destage, World}
 use Rattle.block_machine.specs.Attentions.{attentions_at_start}
 use Rattle.block_machine.specs.State.{State, state_at_start}
 use Rattle.block_machine.specs.Steps.{begun, entries_after}
+use Rattle.drive_scene.specs.declared.made.Made.{Made}
 
 -- one turn with its own operations
 pub record Beat : Type 0 where
@@ -52,20 +52,20 @@ abbrev pub capacity : Scene → ℕ
 capacity s = capacity_of s.size
 
 -- what a factory writes
-abbrev pub factory_ops : Size → List Psn → List Op
-factory_ops size primary = map Wrote (factory_payloads size primary)
+abbrev pub factory_ops : Made → List Op
+factory_ops made = map Wrote (factory_payloads made.size made.primary)
 
 -- before the first turn
-abbrev pub scene_at_start : Size → List Psn → Scene
-scene_at_start size primary = record {
-  size = size;
-  map = factory_map size primary;
-  ops = factory_ops size primary;
+abbrev pub scene_at_start : Made → Scene
+scene_at_start made = record {
+  size = made.size;
+  map = factory_map made.size made.primary;
+  ops = factory_ops made;
   hist = state_at_start attentions_at_start;
   windows = λ c. [];
   settings = λ c. default_settings;
   recovered = λ c. None;
-  since = factory_ops size primary;
+  since = factory_ops made;
   entries = [];
 }
 
@@ -89,7 +89,11 @@ with_arrival windows other = windows
 abbrev pub windows_by : Label → (ℕ → List Op) → Beat → ℕ → List Op
 windows_by (Work c) windows t = put_at c (window_after c (windows c) t) windows
 windows_by (Arrive i) windows t = fold with_arrival windows t.entries
-windows_by label windows t = windows
+windows_by (World w) windows t = windows
+-- none of these comes yet
+windows_by (Job j) windows t = windows
+windows_by Scan windows t = windows
+windows_by Destage windows t = windows
 
 -- a command starts with these mode values
 abbrev pub settings_by : Settings → (ℕ → Settings) → Entry → ℕ → Settings

@@ -18,7 +18,7 @@ pub record IsStill (s : Scene) (label : Label) (entries : List Entry) : Type 0 w
   pub tasks : entries_lawful (capacity s) label (begun s.hist label) entries ≡ true
   pub blocks : blocks_lawful (capacity s) s.hist.blocks entries ≡ true
   pub shown : Along (entry_after (capacity s) label) (Shows s (beat label entries [])) (begun s.hist label) entries
-  pub step : IsStep (is_off s.ops) label entries []
+  pub step : IsStep s label entries []
   pub on_none : (b : Lba) → list_any (is_on b) entries ≡ false
   pub on_one : are_on (lba 0) entries ≡ true
   pub own : AreOwn label entries
@@ -26,7 +26,8 @@ pub record IsStill (s : Scene) (label : Label) (entries : List Entry) : Type 0 w
   pub windows : (q : ℕ) → length ((scene_after s (beat label entries [])).windows q) ≤ 50
   pub unchanged : (scene_after s (beat label entries [])).hist.blocks ≡ s.hist.blocks
 
--- the map is there, and what is stored stands
+-- the power is on, the map is there, and what is stored stands
 pub record IsStanding (s : Scene) : Type 0 where
+  pub powered : is_off s.ops ≡ false
   pub present : IsPresentMap s.map s.ops
   pub stands : IsStood s.map s.ops s.hist.blocks

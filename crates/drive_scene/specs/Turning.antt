@@ -10,6 +10,7 @@ use Rattle.block_machine.specs.declared.turn.Label.TheVariants as label
 use Rattle.block_machine.specs.declared.turn.Turn.{Turn}
 use Rattle.drive_scene.specs.declared.event.Arrival.{Arrival}
 use Rattle.drive_scene.specs.declared.event.Arrival.TheVariants.{Command, Function}
+use Rattle.drive_scene.specs.declared.event.Arriving.{Arriving}
 use Rattle.drive_scene.specs.declared.event.Event.{Event}
 use Rattle.drive_scene.specs.declared.event.Event.TheVariants as event
 use Rattle.drive_scene.specs.declared.answer.Pick.{Pick}
@@ -30,7 +31,7 @@ label_of_pick pick.Scan = label.Scan
 label_of_pick pick.Destage = label.Destage
 
 abbrev pub initiator_of : Arrival → ℕ
-initiator_of (Command i tag attribute cdb sent) = i
+initiator_of (Command x) = x.initiator
 initiator_of (Function i what) = i
 
 -- the label of an event's turn; none where `Any` picks none
@@ -43,9 +44,13 @@ label_of s event.Scan = Some label.Scan
 label_of s event.Destage = Some label.Destage
 label_of s (event.World w) = Some (label.World w)
 
+-- the entry of a command that arrives, by the number that it gets
+abbrev pub entry_of : ℕ → Arriving → Entry
+entry_of c x = Arrived c x.initiator x.tag x.attribute x.cdb x.sent
+
 -- a command arrives with the next number, and a function as it is asked for
 abbrev pub arrives_as : ℕ → Event → Option Entry
-arrives_as arrived (event.Arrive (Command i tag attribute cdb sent)) = Some (Arrived (arrived + 1) i tag attribute cdb sent)
+arrives_as arrived (event.Arrive (Command x)) = Some (entry_of (arrived + 1) x)
 arrives_as arrived (event.Arrive (Function i what)) = Some (Asked i what)
 arrives_as arrived other = None
 
@@ -72,7 +77,6 @@ pub record AddsTurn (old : Run) (e : Event) (given : TurnAnswer) (new : Run) : T
   -- what the platter did
   pub ops : List Op
   pub added : new.ops ≡ old.ops ++ ops
-  pub size : new.size ≡ old.size
-  pub primary : new.primary ≡ old.primary
+  pub made : new.made ≡ old.made
   pub coming : new.coming ≡ coming_after old.coming e
   pub answered : given ≡ answer.Done (length new.turns) (ended_in (scene_of old) turn.entries) (list_any is_scanned turn.entries)

@@ -1,16 +1,20 @@
 use disk_base::{Attribute, Cdb, DataOut, Function, Initiator, Tag};
 use platter_model::World;
 
+/// A command that arrives, with its data.
+#[derive(Debug, Drop)]
+pub struct Arriving {
+    pub initiator: Initiator,
+    pub tag: Tag,
+    pub attribute: Attribute,
+    pub cdb: Cdb,
+    pub sent: DataOut,
+}
+
 /// What arrives from an initiator.
 #[derive(Debug, Drop)]
 pub enum Arrival {
-    Command {
-        initiator: Initiator,
-        tag: Tag,
-        attribute: Attribute,
-        cdb: Cdb,
-        sent: DataOut,
-    },
+    Command(Arriving),
     Function {
         initiator: Initiator,
         what: Function,

@@ -1,6 +1,8 @@
-//! What each kind of turn comes to: a law a kind, each the clause of a function that does nothing.
+//! What each kind of turn comes to, and what a factory leaves: laws, each the clause of a function that changes nothing.
 
-ghost use Rattle.drive_scene.specs.Laws.{StillTurnsAreGood, DamageTurnsAreGood, HalvesGoOn, HalvesEnd, TriesAreHalves, GetsAreHalves, PutsAreHalves, PutsThroughAreHalves, HardensAreHalves, PassesToHardenAreHalves, PassesAreHalves};
+ghost use Rattle.drive_scene.specs.Laws.{StillTurnsAreGood, DamageTurnsAreGood, HalvesAreGood, TriesAreHalves, GetsAreHalves, PutsAreHalves, PutsThroughAreHalves, HardensAreHalves, PassesToHardenAreHalves, PassesAreHalves, MapsStay, FactoriesLeaveZeros};
+
+use geometry_map::two_blocks_are_never_at_one_sector;
 
 /// A turn without operations that is about no block is good: an arrival, a function, a start, minutes that pass.
 pub fn still_turns_are_good()
@@ -12,14 +14,9 @@ pub fn damage_turns_are_good()
     ensures { DamageTurnsAreGood }
 {}
 
-/// Half a turn with which its command goes on is a good turn.
-pub fn halves_go_on()
-    ensures { HalvesGoOn }
-{}
-
-/// Half a turn with which its command ends is a good turn with the end.
-pub fn halves_end()
-    ensures { HalvesEnd }
+/// Half a turn is a good turn, where its command goes on, and with its end where it ends.
+pub fn halves_are_good()
+    ensures { HalvesAreGood }
 {}
 
 /// A command tries a block and does not get it.
@@ -56,3 +53,15 @@ pub fn passes_to_harden_are_halves()
 pub fn passes_are_halves()
     ensures { PassesAreHalves }
 {}
+
+/// Turns leave the map and the measures as they were.
+pub fn maps_stay()
+    ensures { MapsStay }
+{}
+
+/// A factory leaves the power on, no sector with a write fault, and each block as zeros.
+pub fn factories_leave_zeros()
+    ensures { FactoriesLeaveZeros }
+{
+    two_blocks_are_never_at_one_sector();
+}

@@ -5,11 +5,13 @@
 mod answer;
 mod event;
 mod laws;
+mod made;
 
 pub use answer::{Ended, Pick, TurnAnswer, Waiting};
-pub use event::{Arrival, Event, Holder};
+pub use event::{Arrival, Arriving, Event, Holder};
 pub use laws::{
-    damage_turns_are_good, gets_are_halves, halves_end, halves_go_on, hardens_are_halves,
-    passes_are_halves, passes_to_harden_are_halves, puts_are_halves, puts_through_are_halves,
-    still_turns_are_good, tries_are_halves,
+    damage_turns_are_good, factories_leave_zeros, gets_are_halves, halves_are_good,
+    hardens_are_halves, maps_stay, passes_are_halves, passes_to_harden_are_halves, puts_are_halves,
+    puts_through_are_halves, still_turns_are_good, tries_are_halves,
 };
+pub use made::Made;

@@ -25,7 +25,7 @@ use Rattle.block_machine.proofs.Booleans.{both}
 use Rattle.drive_scene.specs.declared.event.Arrival.{Arrival as Sent}
 use Rattle.drive_scene.specs.declared.event.Arrival.TheVariants.{Command, Function}
 use Rattle.drive_scene.specs.Scene.{Scene, capacity, scene_after, with_arrival}
-use Rattle.script_runner.specs.Arrivals.{Sends}
+use Rattle.script_runner.specs.Arrivals.{Sends, arriving}
 use Rattle.script_runner.specs.Measure.{steps_asked, turns_left, sum_upto, turns_of_arrival, turns_to_send, turns_of_phase}
 use Rattle.script_runner.specs.Each.{Each}
 use Rattle.script_runner.proofs.Entries.{IsNoArrival, answered, aborted, arrived_same}
@@ -112,7 +112,7 @@ sent_lower blocks sends left i a low high first others =
 
 -- the turn of a command that arrives
 pub arrival_lower : (s : Scene) (sends left : Sends) (i c : ℕ) (t : Tag) (a : Attribute) (cdb : List ℕ) (sent : DataOut) (rest : List Entry) (ops : List Op)
-    → c ≡ s.hist.arrived + 1 → is_answered (is_full s.hist) c rest ≡ true → 1 ≤ i → i ≤ 8 → sends i ≡ Command i t a cdb sent ∷ left i → ((j : ℕ) → j ≢ i → left j ≡ sends j)
+    → c ≡ s.hist.arrived + 1 → is_answered (is_full s.hist) c rest ≡ true → 1 ≤ i → i ≤ 8 → sends i ≡ Command (arriving i t a cdb sent) ∷ left i → ((j : ℕ) → j ≢ i → left j ≡ sends j)
     → turns_of_phase (scene_after s (record { label = label.Arrive i; entries = Arrived c i t a cdb sent ∷ rest; ops = ops })) left < turns_of_phase s sends
 arrival_lower s sends left i c t a cdb sent rest ops next ok low high first others =
     let blocks = capacity s in
@@ -121,7 +121,7 @@ arrival_lower s sends left i c t a cdb sent rest ops next ok low high first othe
     let quiet = answered (is_full s.hist) c rest ok in
     let window : (j : ℕ) → (j ≡ c → ⊥) → k.windows j ≡ s.windows j =
     λ j ne. ap (λ (w : ℕ → List Op). w j) (no_window (put_at c [] s.windows) rest quiet) ∙ put_other c j [] s.windows ne in
-    let to_send = sent_lower blocks sends left i (Command i t a cdb sent) low high first others in
+    let to_send = sent_lower blocks sends left i (Command (arriving i t a cdb sent)) low high first others in
     let before : sum_upto (turns_left k) s.hist.arrived ≡ sum_upto (turns_left s) s.hist.arrived =
     sum_same (turns_left s) (turns_left k) s.hist.arrived (λ j le.
     let one = it.others j (λ e. omega arith) in

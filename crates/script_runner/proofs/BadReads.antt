@@ -32,9 +32,12 @@ use Rattle.block_machine.proofs.Booleans.{both}
 use Rattle.block_machine.proofs.Projection.{blocks_of_entries, blocks_begun}
 use Rattle.drive_scene.specs.Scene.{Scene, Beat, capacity, scene_at_start, scene_after, opens_window, window_after, with_arrival, windows_by, windows_with}
 use Rattle.drive_scene.specs.GoodTurn.{GoodTurn}
-use Rattle.drive_scene.proofs.Pushes.{map_stays}
+use Rattle.drive_scene.specs.Evidence.{FoundByStages, window_now, settings_now}
+use Rattle.sector_store.specs.Shapes.{try_of}
+use Rattle.drive_scene.specs.Laws.{MapsStay}
 use Rattle.script_runner.specs.Laws.{BadReadsAreShown}
 use Rattle.script_runner.specs.Run.{beats_of, drive_run}
+use Rattle.script_runner.specs.Script.{made_for}
 use Rattle.script_runner.proofs.OwnData.{IsOwn, WritesOwn, own_meant, own_written}
 use Rattle.script_runner.proofs.RunLaws.{ops_begin, none_before, along_at, gets_are_shown}
 
@@ -153,15 +156,10 @@ lost_is_clean n blocks earlier rest c b lawful =
     let of_block = both _ (may_get (fold blocks_after blocks earlier b.0) Lost) here.0 in
     (ltb-true b.0 n of_block.0, not-true (is_dirty (fold blocks_after blocks earlier b.0)) of_block.1)
 
--- no turn changes the drive's measures
-size_stays : (s : Scene) (turns : List Beat) → (fold scene_after s turns).size ≡ s.size
-size_stays s [] = refl
-size_stays s (t ∷ turns) = size_stays (scene_after s t) turns
-
-pub bad_reads_are_shown : BlocksHaveOwnSectors → BlocksLieOnUserSectors → BadReadsAreShown
+pub bad_reads_are_shown : MapsStay → BlocksHaveOwnSectors → BlocksLieOnUserSectors → BadReadsAreShown
 unfolding AreWithin
-bad_reads_are_shown apart on_user order script turns ops good none before after t earlier rest c b is_t is_e =
-    let start = scene_at_start good.size script.primary.items in
+bad_reads_are_shown stay apart on_user order script turns ops good none before after t earlier rest c b is_t is_e =
+    let start = scene_at_start (made_for good.size script) in
     let s = fold scene_after start before in
     let more = ops_begin (scene_after s t) after in
     let whole : ops ≡ (s.ops ++ t.ops) ++ more.0 =
@@ -176,17 +174,20 @@ bad_reads_are_shown apart on_user order script turns ops good none before after 
     blocks_of_entries (capacity s) t.label (begun s.hist t.label) earlier ∙ ap (λ (bs : Blocks). fold blocks_after bs earlier) (blocks_begun s.hist t.label) in
     let undirty : is_dirty ((entries_after (capacity s) t.label (begun s.hist t.label) earlier).blocks b.0) ≡ false =
     ap (λ (bs : Blocks). is_dirty (bs b.0)) same ∙ clean.1 in
-    let map_is : (fold scene_after start before).map ≡ factory_map good.size script.primary.items = map_stays start before in
+    let map_is : (fold scene_after start before).map ≡ factory_map good.size script.primary.items = (stay start before).0 in
     let place : place_of (factory_map good.size script.primary.items) b ≡ place_of s.map b = ap (λ (m : DefectMap). place_of m b) (sym map_is) in
-    let below : b.0 < capacity_of good.size = subst (λ (z : Size). b.0 < capacity_of z) (size_stays start before) clean.0 in
+    let below : b.0 < capacity_of good.size = subst (λ (z : Size). b.0 < capacity_of z) (stay start before).1 clean.0 in
     let written : All (WritesOwn b (place_of s.map b)) ops =
     subst (λ (p : Psn). All (WritesOwn b p) ops) place
     (subst (All (WritesOwn b (place_of (factory_map good.size script.primary.items) b))) good.history.own
-    (own_written apart on_user good.size script.primary.items (beats_of (drive_run good.size script turns ops)) good.history.valid good.history.good b below)) in
+    (own_written apart on_user (made_for good.size script) (beats_of (drive_run good.size script turns ops)) good.history.valid good.history.good b below)) in
     let within = all_within start before (λ q x h. none_among start.ops x h) in
     ⊎_elim (λ failed. failed)
-    (λ found. let try = Tried found.1.0 (place_of s.map b) found.0 (Some found.1.1) in
-    absurd (none_lost ops found.1.0 (place_of s.map b) found.0 found.1.1 b none written
+    (λ (found : FoundByStages (window_now s t c) (place_of s.map b) (settings_now s t c).retry b Lost).
+    let try = Tried found.2 (place_of s.map b) found.3 (Some found.4) in
+    let there : Contains (window_now s t c) try = subst (λ (xs : List Op). Contains xs try) (sym found.7)
+    (Contains-append_right found.1 (try_of found.2 (place_of s.map b) found.3 (Some found.4)) try (1, omega arith, refl)) in
+    absurd (none_lost ops found.2 (place_of s.map b) found.3 found.4 b none written
     (subst (λ (xs : List Op). Contains xs try) (sym whole)
-    (Contains-append_left (s.ops ++ t.ops) more.0 try (now_within t.label s.windows s.ops t.ops within c try found.1.2))) found.1.3))
+    (Contains-append_left (s.ops ++ t.ops) more.0 try (now_within t.label s.windows s.ops t.ops within c try there))) found.8))
     (gets_are_shown order script turns ops good before after t earlier rest c b Lost is_t is_e undirty)

@@ -4,13 +4,12 @@ use Rattle.std.specs.Prelude.{fold, slice_range}
 use Rattle.std.proofs.lemmas.List.{map-append, take-append-le, drop-append-le, length-drop, length_push}
 use Rattle.std.proofs.lemmas.List.Sums.{fold-append}
 use Rattle.disk_base.specs.Along.{Along}
-use Rattle.disk_base.specs.declared.address.Psn.{Psn}
-use Rattle.geometry_map.specs.declared.size.Size.{Size}
 use Rattle.platter_model.specs.declared.op.Op.{Op}
 use Rattle.block_machine.specs.declared.turn.Turn.{Turn}
 use Rattle.drive_scene.specs.declared.event.Event.{Event}
 use Rattle.drive_scene.specs.Scene.{Beat, scene_after, scene_at_start, factory_ops}
 use Rattle.drive_scene.specs.GoodTurn.{GoodTurn}
+use Rattle.drive_scene.specs.declared.made.Made.{Made}
 use Rattle.drive_scene.specs.Run.{Run, FollowFrom, beat_of, scene_of}
 use Rattle.drive_scene.specs.Turning.{label_of, arrives_as, BeginsWith}
 use Rattle.script_runner.specs.Run.{beats_of}
@@ -58,35 +57,33 @@ pub record NextTurn (old : Run) (e : Event) (new : Run) : Type 0 where
   pub counted : length new.turns ≡ length old.turns + 1
 
 -- what turns have come to is what some of them had, and the others after these
-pub scene_on : (old new : Run) (own : List Beat) → beats_of new ≡ beats_of old ++ own → new.size ≡ old.size → new.primary ≡ old.primary
+pub scene_on : (old new : Run) (own : List Beat) → beats_of new ≡ beats_of old ++ own → new.made ≡ old.made
     → scene_of new ≡ fold scene_after (scene_of old) own
-scene_on old new own beats size primary =
-    ap (λ (bs : List Beat). fold scene_after (scene_at_start new.size new.primary) bs) beats
-    ∙ ap (λ (z : Size). fold scene_after (scene_at_start z new.primary) (beats_of old ++ own)) size
-    ∙ ap (λ (z : List Psn). fold scene_after (scene_at_start old.size z) (beats_of old ++ own)) primary
-    ∙ fold-append scene_after (scene_at_start old.size old.primary) (beats_of old) own
+scene_on old new own beats made =
+    ap (λ (bs : List Beat). fold scene_after (scene_at_start new.made) bs) beats
+    ∙ ap (λ (m : Made). fold scene_after (scene_at_start m) (beats_of old ++ own)) made
+    ∙ fold-append scene_after (scene_at_start old.made) (beats_of old) own
 
 pub scene_next : (old new : Run) (t : Beat) → GoesOn old new t → scene_of new ≡ scene_after (scene_of old) t
-scene_next old new t goes = scene_on old new (t ∷ []) goes.beats goes.size goes.primary
+scene_next old new t goes = scene_on old new (t ∷ []) goes.beats goes.made
 
 module _ (old : Run) (e : Event) (new : Run) (made : MakesTurn old e new) where
   one_more : beats_of new ≡ beats_of old ++ beat_of new.ops made.adds.turn ∷ []
   one_more =
       ap (map (beat_of new.ops)) made.adds.turns ∙ map-append (beat_of new.ops) old.turns (made.adds.turn ∷ [])
       ∙ ap (λ (bs : List Beat). bs ++ beat_of new.ops made.adds.turn ∷ []) (ap (λ (os : List Op). map (beat_of os) old.turns) made.adds.added
-      ∙ same_beats old.ops made.adds.ops (length (factory_ops old.size old.primary)) old.turns (length old.ops) made.before.follow (omega arith))
+      ∙ same_beats old.ops made.adds.ops (length (factory_ops old.made)) old.turns (length old.ops) made.before.follow (omega arith))
 
   is_good : GoodTurn (scene_of old) (beat_of new.ops made.adds.turn)
   is_good =
-      let from_size = subst (λ (z : Size). Along scene_after GoodTurn (scene_at_start z new.primary) (beats_of new)) made.adds.size made.after.good in
-      let from_both = subst (λ (z : List Psn). Along scene_after GoodTurn (scene_at_start old.size z) (beats_of new)) made.adds.primary from_size in
-      let all = subst (λ (z : List Beat). Along scene_after GoodTurn (scene_at_start old.size old.primary) z) one_more from_both in
-      along_last scene_after GoodTurn (scene_at_start old.size old.primary) (beats_of old) (beat_of new.ops made.adds.turn) all
+      let from_made = subst (λ (m : Made). Along scene_after GoodTurn (scene_at_start m) (beats_of new)) made.adds.made made.after.good in
+      let all = subst (λ (z : List Beat). Along scene_after GoodTurn (scene_at_start old.made) z) one_more from_made in
+      along_last scene_after GoodTurn (scene_at_start old.made) (beats_of old) (beat_of new.ops made.adds.turn) all
 
   pub next_turn : NextTurn old e new
   next_turn = record {
     turn = beat_of new.ops made.adds.turn;
-    goes = record { beats = one_more; size = made.adds.size; primary = made.adds.primary };
+    goes = record { beats = one_more; made = made.adds.made };
     good = is_good;
     label = made.adds.label;
     arrival = made.adds.arrival;

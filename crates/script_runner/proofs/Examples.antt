@@ -15,7 +15,7 @@ use Rattle.script_text.specs.declared.script.Line.TheVariants.{Command, Scan, Go
 use Rattle.drive_scene.specs.declared.event.Arrival.{Arrival}
 use Rattle.drive_scene.specs.declared.event.Arrival.TheVariants as arrival
 use Rattle.drive_scene.specs.Scene.{Scene, Beat}
-use Rattle.script_runner.specs.Arrivals.{Sends, sends_of, lines_of, arrived_in}
+use Rattle.script_runner.specs.Arrivals.{Sends, arriving, sends_of, lines_of, arrived_in}
 use Rattle.script_runner.specs.Order.{drawn, number_of}
 use Rattle.script_runner.specs.Phase.{IsPhase, IsPicked, ByOrder}
 use Rattle.script_runner.specs.CarriedOut.{CarryOut}
@@ -23,7 +23,7 @@ use Rattle.script_runner.specs.Measure.{steps_of, turns_of_move, turns_a_step, t
 
 -- a READ (10) of block 0, under a tag
 abbrev sent : ℕ → ℕ → Arrival
-sent i t = arrival.Command i (record { 0 = t }) Simple (0x28 ∷ 0 ∷ 0 ∷ 0 ∷ 0 ∷ 0 ∷ 0 ∷ 0 ∷ 1 ∷ 0 ∷ []) Nothing
+sent i t = arrival.Command (arriving i (record { 0 = t }) Simple (0x28 ∷ 0 ∷ 0 ∷ 0 ∷ 0 ∷ 0 ∷ 0 ∷ 0 ∷ 1 ∷ 0 ∷ []) Nothing)
 
 abbrev line : ℕ → ℕ → Line
 line i t = Command i (record { 0 = t }) Simple (0x28 ∷ 0 ∷ 0 ∷ 0 ∷ 0 ∷ 0 ∷ 0 ∷ 0 ∷ 1 ∷ 0 ∷ []) Nothing

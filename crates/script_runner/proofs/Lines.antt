@@ -6,13 +6,13 @@ use Rattle.std.proofs.lemmas.List.Sums.{sum_by-cons, sum_by-append}
 use Rattle.std.proofs.lemmas.Bool.{cases_eq}
 use Rattle.disk_base.specs.Along.{Along}
 use Rattle.geometry_map.specs.Size.{capacity_of}
-use Rattle.geometry_map.specs.declared.size.Size.{Size}
 use Rattle.platter_model.specs.declared.world.World.{World as Outside}
 use Rattle.script_text.specs.declared.script.Line.{Line}
 use Rattle.script_text.specs.declared.script.Line.TheVariants.{Command, Function, Go, World}
 use Rattle.drive_scene.specs.declared.event.Arrival.{Arrival as Sent}
 use Rattle.drive_scene.specs.declared.event.Arrival.TheVariants as arrival
 use Rattle.drive_scene.specs.Scene.{Scene, Beat, capacity, scene_after, scene_at_start}
+use Rattle.drive_scene.specs.declared.made.Made.{Made}
 use Rattle.drive_scene.specs.Run.{Run, scene_of, beat_of}
 use Rattle.drive_scene.specs.declared.answer.Waiting.{Waiting}
 use Rattle.drive_scene.specs.Able.{picked}
@@ -41,8 +41,8 @@ same_blocks : (s : Scene) (turns : List Beat) → capacity (fold scene_after s t
 same_blocks s [] = refl
 same_blocks s (t ∷ turns) = same_blocks (scene_after s t) turns
 
-pub blocks_of : (r : Run) → capacity (scene_of r) ≡ capacity_of r.size
-blocks_of r = same_blocks (scene_at_start r.size r.primary) (map (beat_of r.ops) r.turns)
+pub blocks_of : (r : Run) → capacity (scene_of r) ≡ capacity_of r.made.size
+blocks_of r = same_blocks (scene_at_start r.made) (map (beat_of r.ops) r.turns)
 
 -- no command is in: none has turns left
 no_turns : (s : Scene) (c : ℕ) → s.hist.set ≡ [] → turns_left s c ≡ 0
@@ -52,9 +52,9 @@ sum_zero : (f : ℕ → ℕ) (n : ℕ) → ((j : ℕ) → f j ≡ 0) → sum_upt
 sum_zero f zero none = refl
 sum_zero f (suc n) none = let here = none (suc n) in let rest = sum_zero f n none in omega arith
 
-pub phase_of_rest : (r : Run) (sends : Sends) → (scene_of r).hist.set ≡ [] → turns_of_phase (scene_of r) sends ≡ turns_to_send (capacity_of r.size) sends
+pub phase_of_rest : (r : Run) (sends : Sends) → (scene_of r).hist.set ≡ [] → turns_of_phase (scene_of r) sends ≡ turns_to_send (capacity_of r.made.size) sends
 phase_of_rest r sends empty =
-    let blocks : turns_to_send (capacity (scene_of r)) sends ≡ turns_to_send (capacity_of r.size) sends = ap (λ (n : ℕ). turns_to_send n sends) (blocks_of r) in
+    let blocks : turns_to_send (capacity (scene_of r)) sends ≡ turns_to_send (capacity_of r.made.size) sends = ap (λ (n : ℕ). turns_to_send n sends) (blocks_of r) in
     let none = sum_zero (turns_left (scene_of r)) (scene_of r).hist.arrived (λ j. no_turns (scene_of r) j empty) in
     omega arith
 
@@ -110,21 +110,21 @@ same_phase f g order s own same carried = record {
 
 -- the line by which something is to be sent
 abbrev pub line_of : Sent → Line
-line_of (arrival.Command i t a cdb sent) = Command i t a cdb sent
+line_of (arrival.Command x) = Command x.initiator x.tag x.attribute x.cdb x.sent
 line_of (arrival.Function i what) = Function i what
 
 sent_by_line : (a : Sent) → filter_map arrival_of_line (line_of a ∷ []) ≡ a ∷ []
-sent_by_line (arrival.Command i t a cdb sent) = refl
+sent_by_line (arrival.Command x) = refl
 sent_by_line (arrival.Function i what) = refl
 
 turns_of_sent : (blocks : ℕ) (a : Sent) → turns_of_line blocks (line_of a) ≡ turns_of_arrival blocks a
-turns_of_sent blocks (arrival.Command i t a cdb sent) = refl
+turns_of_sent blocks (arrival.Command x) = refl
 turns_of_sent blocks (arrival.Function i what) = refl
 
 -- such a line waits
 waits_too : (order : Option ℕ) (s : Scene) (waiting rest : List Line) (turns : List Beat) (a : Sent)
     → CarryOut ByOrder order s (waiting ++ line_of a ∷ []) rest turns → CarryOut ByOrder order s waiting (line_of a ∷ rest) turns
-waits_too order s waiting rest turns (arrival.Command i t a cdb sent) co = co
+waits_too order s waiting rest turns (arrival.Command x) co = co
 waits_too order s waiting rest turns (arrival.Function i what) co = co
 
 pub line_sent : (r : Run) (order : Option ℕ) (old new : List (List Sent)) (i : ℕ) (it : Sent) → IsAtRest r (sends_of old) → IsToSend i it → Added old new i it
@@ -132,7 +132,7 @@ pub line_sent : (r : Run) (order : Option ℕ) (old new : List (List Sent)) (i :
 line_sent r order old new i it at_rest served added = record {
   at_rest = record { idle = at_rest.idle; served = λ j. now_served j (cases_eq j i) };
   few =
-      (let blocks = capacity_of r.size in
+      (let blocks = capacity_of r.made.size in
       let one = turns_of_sent blocks it in
       let more : turns_to_send blocks (sends_of new) ≤ turns_to_send blocks (sends_of old) + turns_of_arrival blocks it =
       sum_more (λ n. sum_by (turns_of_arrival blocks) (sends_of new n)) (λ n. sum_by (turns_of_arrival blocks) (sends_of old n)) 8 i (turns_of_arrival blocks it)
@@ -143,7 +143,7 @@ line_sent r order old new i it at_rest served added = record {
   leads = λ waiting waits. (
     waiting ++ line_of it ∷ [],
     (λ j. waits_on waiting waits j (cases_eq j i)),
-    λ rest. record { own = []; beats = sym (append-nil (beats_of r)); size = refl; primary = refl; completes = λ turns co. waits_too order (scene_of r) waiting rest turns it co },
+    λ rest. record { own = []; beats = sym (append-nil (beats_of r)); made = refl; completes = λ turns co. waits_too order (scene_of r) waiting rest turns it co },
   );
 }
   where
@@ -173,7 +173,7 @@ pub line_go : (old new : Run) (order next : Option ℕ) (sends left : Sends) →
 line_go old new order next sends left at_rest carried empty =
     let rest_turns = phase_of_rest old sends at_rest.idle in
     let few = carried.few in
-    let none = none_to_send (capacity_of new.size) left empty in
+    let none = none_to_send (capacity_of new.made.size) left empty in
     record {
       at_rest = record { idle = carried.idle; served = λ i. subst (Each (IsToSend i)) (sym (empty i)) tt };
       few = omega arith;
@@ -183,14 +183,13 @@ line_go old new order next sends left at_rest carried empty =
         λ rest. record {
           own = carried.own;
           beats = carried.beats;
-          size = carried.size;
-          primary = carried.primary;
+          made = carried.made;
           completes = λ turns co. (
             carried.own,
             turns,
             refl,
             same_phase sends (lines_of waiting) order (scene_of old) carried.own waits carried.phase,
-            subst (λ (s : Scene). CarryOut ByOrder (order_after order carried.own) s [] rest turns) (scene_on old new carried.own carried.beats carried.size carried.primary)
+            subst (λ (s : Scene). CarryOut ByOrder (order_after order carried.own) s [] rest turns) (scene_on old new carried.own carried.beats carried.made)
                 (subst (λ (x : Option ℕ). CarryOut ByOrder x (scene_of new) [] rest turns) carried.drawn_once_a_turn co),
           );
         },
@@ -201,7 +200,7 @@ line_go old new order next sends left at_rest carried empty =
 pub line_world : (old new : Run) (order : Option ℕ) (sends : Sends) (w : Outside) → IsAtRest old sends → Happens old w new → TakesLine old order sends (World w) new order sends
 line_world old new order sends w at_rest happens =
     let counted = happens.counted in
-    let same : turns_to_send (capacity_of new.size) sends ≡ turns_to_send (capacity_of old.size) sends = ap (λ (size : Size). turns_to_send (capacity_of size) sends) happens.goes.size in
+    let same : turns_to_send (capacity_of new.made.size) sends ≡ turns_to_send (capacity_of old.made.size) sends = ap (λ (m : Made). turns_to_send (capacity_of m.size) sends) happens.goes.made in
     record {
       at_rest = record { idle = happens.idle at_rest.idle; served = at_rest.served };
       few = omega arith;
@@ -211,8 +210,7 @@ line_world old new order sends w at_rest happens =
         λ rest. record {
           own = happens.turn ∷ [];
           beats = happens.goes.beats;
-          size = happens.goes.size;
-          primary = happens.goes.primary;
+          made = happens.goes.made;
           completes = λ turns co. (
             happens.turn,
             turns,
@@ -233,10 +231,9 @@ script_on start now new order so_far next lines rest line sends left it takes =
     let before = it.leads in
     let few = takes.few in
     let was = it.few in
-    let size : new.size ≡ now.size = leads.size in
-    let same : turns_of_lines (capacity_of new.size) rest ≡ turns_of_lines (capacity_of now.size) rest = ap (λ (z : Size). turns_of_lines (capacity_of z) rest) size in
-    let cons : turns_of_lines (capacity_of now.size) (line ∷ rest) ≡ turns_of_line (capacity_of now.size) line + turns_of_lines (capacity_of now.size) rest =
-    sum_by-cons (turns_of_line (capacity_of now.size)) line rest in
+    let same : turns_of_lines (capacity_of new.made.size) rest ≡ turns_of_lines (capacity_of now.made.size) rest = ap (λ (m : Made). turns_of_lines (capacity_of m.size) rest) leads.made in
+    let cons : turns_of_lines (capacity_of now.made.size) (line ∷ rest) ≡ turns_of_line (capacity_of now.made.size) line + turns_of_lines (capacity_of now.made.size) rest =
+    sum_by-cons (turns_of_line (capacity_of now.made.size)) line rest in
     record {
       waiting = step.0;
       waits = step.1;
@@ -244,8 +241,7 @@ script_on start now new order so_far next lines rest line sends left it takes =
       leads = record {
         own = before.own ++ leads.own;
         beats = leads.beats ∙ ap (λ (bs : List Beat). bs ++ leads.own) before.beats ∙ append_assoc (beats_of start) before.own leads.own;
-        size = leads.size ∙ before.size;
-        primary = leads.primary ∙ before.primary;
+        made = leads.made ∙ before.made;
         completes = λ turns co. subst (CarryOut ByOrder order (scene_of start) [] lines) (sym (append_assoc before.own leads.own turns)) (before.completes (leads.own ++ turns) (leads.completes turns co));
       };
       few = omega arith;
@@ -254,12 +250,12 @@ script_on start now new order so_far next lines rest line sends left it takes =
 -- before the first line
 pub script_begins : (start : Run) (order : Option ℕ) (lines : List Line) (sends : Sends) → (scene_of start).hist.set ≡ [] → ((i : ℕ) → sends i ≡ []) → InScript start order lines lines start order sends
 script_begins start order lines sends idle empty =
-    let none = none_to_send (capacity_of start.size) sends empty in
+    let none = none_to_send (capacity_of start.made.size) sends empty in
     record {
       waiting = [];
       waits = empty;
       at_rest = record { idle = idle; served = λ i. subst (Each (IsToSend i)) (sym (empty i)) tt };
-      leads = record { own = []; beats = sym (append-nil (beats_of start)); size = refl; primary = refl; completes = λ turns co. co };
+      leads = record { own = []; beats = sym (append-nil (beats_of start)); made = refl; completes = λ turns co. co };
       few = omega arith;
     }
 
@@ -274,8 +270,7 @@ script_done start now new order so_far next lines sends it carried =
     record {
       own = before.own ++ carried.own;
       beats = carried.beats ∙ ap (λ (bs : List Beat). bs ++ carried.own) before.beats ∙ append_assoc (beats_of start) before.own carried.own;
-      size = carried.size ∙ before.size;
-      primary = carried.primary ∙ before.primary;
+      made = carried.made ∙ before.made;
       few = omega arith;
       carried = before.completes carried.own (same_phase sends (lines_of it.waiting) so_far (scene_of now) carried.own it.waits carried.phase);
     }
@@ -286,15 +281,15 @@ on_ok_both (Err e) a b f = tt
 
 -- there is room for the turns of one line more, and of the last phase
 pub room_for : (start now : Run) (order so_far : Option ℕ) (lines rest : List Line) (line : Line) (sends : Sends) (most : ℕ) → InScript start order lines (line ∷ rest) now so_far sends
-    → length start.turns + turns_of_lines (capacity_of start.size) lines < most
-    → length now.turns + turns_to_send (capacity_of now.size) sends + turns_of_line (capacity_of now.size) line < most
+    → length start.turns + turns_of_lines (capacity_of start.made.size) lines < most
+    → length now.turns + turns_to_send (capacity_of now.made.size) sends + turns_of_line (capacity_of now.made.size) line < most
 room_for start now order so_far lines rest line sends most it room =
     let few = it.few in
-    let cons : turns_of_lines (capacity_of now.size) (line ∷ rest) ≡ turns_of_line (capacity_of now.size) line + turns_of_lines (capacity_of now.size) rest =
-    sum_by-cons (turns_of_line (capacity_of now.size)) line rest in
+    let cons : turns_of_lines (capacity_of now.made.size) (line ∷ rest) ≡ turns_of_line (capacity_of now.made.size) line + turns_of_lines (capacity_of now.made.size) rest =
+    sum_by-cons (turns_of_line (capacity_of now.made.size)) line rest in
     omega arith
 
-pub room_at_end : (start now : Run) (order so_far : Option ℕ) (lines : List Line) (sends : Sends) (most : ℕ) → InScript start order lines [] now so_far sends → length start.turns + turns_of_lines (capacity_of start.size) lines < most
+pub room_at_end : (start now : Run) (order so_far : Option ℕ) (lines : List Line) (sends : Sends) (most : ℕ) → InScript start order lines [] now so_far sends → length start.turns + turns_of_lines (capacity_of start.made.size) lines < most
     → length now.turns + turns_of_phase (scene_of now) sends < most
 room_at_end start now order so_far lines sends most it room =
     let few = it.few in

@@ -10,7 +10,6 @@ use Rattle.disk_base.specs.declared.address.Psn.{Psn}
 use Rattle.disk_base.specs.declared.block.Value.TheVariants.{Data, Lost}
 use Rattle.disk_base.specs.declared.payload.Payload.{Payload}
 use Rattle.disk_base.specs.Payload.{value_for}
-use Rattle.geometry_map.specs.declared.size.Size.{Size}
 use Rattle.geometry_map.specs.Size.{capacity_of}
 use Rattle.geometry_map.specs.DefectMap.{DefectMap, IsValidMap, factory_map, place_of}
 use Rattle.geometry_map.specs.Laws.{BlocksHaveOwnSectors, BlocksLieOnUserSectors}
@@ -22,8 +21,10 @@ use Rattle.platter_model.specs.Sector.{is_sector, left_of, meant_after, meant}
 use Rattle.sector_store.specs.Maps.{records_of}
 use Rattle.sector_store.specs.State.{placed}
 use Rattle.sector_store.specs.Factory.{block_at, zero_block, zero_blocks, first_map, factory_payloads}
+use Rattle.drive_scene.specs.declared.made.Made.{Made}
 use Rattle.drive_scene.specs.Scene.{Scene, Beat, scene_at_start, scene_after}
 use Rattle.drive_scene.specs.GoodTurn.{GoodTurn, IsBlockData, WritesBlockData}
+use Rattle.block_machine.specs.declared.entry.Entry.{Entry}
 
 -- a payload that may be missing is a block's data where there is one
 abbrev pub IsOwn : Lba → Option Payload → Type 0
@@ -76,10 +77,10 @@ module _ (m : DefectMap) (valid : IsValidMap m) (b : Lba) (below : b.0 < capacit
       let never : Data own_block.1 ≡ Lost = sym own ∙ ap (value_for b) (sym own_block.3) ∙ lost in
       cc
 
-  pub blocks_write : BlocksHaveOwnSectors → (o : Op) → WritesBlockData m o → WritesOwn b (place_of m b) o
-  blocks_write apart (Wrote payload) own_block = not_lost apart payload own_block
-  blocks_write apart (Torn payload tear) own_block = not_lost apart payload own_block
-  blocks_write apart other own_block = tt
+  pub blocks_write : BlocksHaveOwnSectors → (entries : List Entry) (o : Op) → WritesBlockData m entries o → WritesOwn b (place_of m b) o
+  blocks_write apart entries (Wrote payload) own_block = not_lost apart payload own_block.0
+  blocks_write apart entries (Torn payload tear) own_block = absurd own_block
+  blocks_write apart entries other own_block = tt
 
   -- the records of maps lie before all blocks
   records_write : BlocksLieOnUserSectors → (n : DefectMap) → n.slot < 2 → All (λ (payload : Payload). WritesOwn b (place_of m b) (Wrote payload)) (records_of n)
@@ -101,25 +102,25 @@ zeros_write m P of_block from (suc n) is =
     (of_block (zero_block m from) (block_at from, replicate 512 0, omega arith, refl)) (zeros_write m P of_block (from + 1) n (omega arith))
 
 -- all operations write blocks' data or what the factory did
-all_written : (Q : Op → Type 0) (s : Scene) (turns : List Beat) → ((o : Op) → WritesBlockData s.map o → Q o) → Along scene_after GoodTurn s turns
+all_written : (Q : Op → Type 0) (s : Scene) (turns : List Beat) → ((entries : List Entry) (o : Op) → WritesBlockData s.map entries o → Q o) → Along scene_after GoodTurn s turns
     → All Q s.ops → All Q (fold scene_after s turns).ops
 all_written Q s [] of_block good before = before
 all_written Q s (t ∷ turns) of_block good before =
     all_written Q (scene_after s t) turns of_block good.1
-    (All-append Q s.ops t.ops before (All-weaker (WritesBlockData s.map) Q of_block t.ops good.0.written))
+    (All-append Q s.ops t.ops before (All-weaker (WritesBlockData s.map t.entries) Q (of_block t.entries) t.ops good.0.written))
 
 -- so a drive writes nothing but a block's data to its place, from the factory on
-pub own_written : BlocksHaveOwnSectors → BlocksLieOnUserSectors → (size : Size) (primary : List Psn) (turns : List Beat) → IsValidMap (factory_map size primary)
-    → Along scene_after GoodTurn (scene_at_start size primary) turns → (b : Lba) → b.0 < capacity_of size
-    → All (WritesOwn b (place_of (factory_map size primary) b)) (fold scene_after (scene_at_start size primary) turns).ops
-own_written apart on_user size primary turns valid good b below =
-    let m : DefectMap = factory_map size primary in
-    let Q : Op → Type 0 = WritesOwn b (place_of (factory_map size primary) b) in
-    let P : Payload → Type 0 = λ payload. WritesOwn b (place_of (factory_map size primary) b) (Wrote payload) in
-    let of_block = blocks_write (factory_map size primary) valid b below apart in
-    let records = records_write (factory_map size primary) valid b below on_user in
-    let zeros : All P (zero_blocks (factory_map size primary)) = zeros_write m P (λ payload own_block. of_block (Wrote payload) own_block) 0 (capacity_of size) (omega arith) in
-    let payloads : All P (factory_payloads size primary) =
-    All-append P (records_of (first_map size primary) ++ records_of m) (zero_blocks m)
-    (All-append P (records_of (first_map size primary)) (records_of m) (records (first_map size primary) (omega arith)) (records m (omega arith))) zeros in
-    all_written Q (scene_at_start size primary) turns of_block good (All-map Q Wrote (factory_payloads size primary) payloads)
+pub own_written : BlocksHaveOwnSectors → BlocksLieOnUserSectors → (made : Made) (turns : List Beat) → IsValidMap (factory_map made.size made.primary)
+    → Along scene_after GoodTurn (scene_at_start made) turns → (b : Lba) → b.0 < capacity_of made.size
+    → All (WritesOwn b (place_of (factory_map made.size made.primary) b)) (fold scene_after (scene_at_start made) turns).ops
+own_written apart on_user made turns valid good b below =
+    let m : DefectMap = factory_map made.size made.primary in
+    let Q : Op → Type 0 = WritesOwn b (place_of (factory_map made.size made.primary) b) in
+    let P : Payload → Type 0 = λ payload. WritesOwn b (place_of (factory_map made.size made.primary) b) (Wrote payload) in
+    let of_block = blocks_write (factory_map made.size made.primary) valid b below apart in
+    let records = records_write (factory_map made.size made.primary) valid b below on_user in
+    let zeros : All P (zero_blocks (factory_map made.size made.primary)) = zeros_write m P (λ payload own_block. not_lost (factory_map made.size made.primary) valid b below apart payload own_block) 0 (capacity_of made.size) (omega arith) in
+    let payloads : All P (factory_payloads made.size made.primary) =
+    All-append P (records_of (first_map made.size made.primary) ++ records_of m) (zero_blocks m)
+    (All-append P (records_of (first_map made.size made.primary)) (records_of m) (records (first_map made.size made.primary) (omega arith)) (records m (omega arith))) zeros in
+    all_written Q (scene_at_start made) turns of_block good (All-map Q Wrote (factory_payloads made.size made.primary) payloads)

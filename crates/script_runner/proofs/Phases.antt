@@ -64,7 +64,7 @@ is_picked : (old now : Run) (order so_far : Option ℕ) (sends left : Sends) (p 
     → IsPicked sends (fold one_turn_on (record { scene = scene_of old; came = []; order = order }) phase.own) t
 is_picked old now order so_far sends left p t phase is label =
     let hand = in_hand (scene_of old) [] order phase.own in
-    let scene : scene_of now ≡ fold scene_after (scene_of old) phase.own = scene_on old now phase.own phase.beats phase.size phase.primary in
+    let scene : scene_of now ≡ fold scene_after (scene_of old) phase.own = scene_on old now phase.own phase.beats phase.made in
     let here : option_map label_of_pick (picked (scene_of now) (waiting_of left) (number_of (drawn so_far))) ≡ Some t.label = rw is (ap Some label) in
     subst (λ (h : InHand). IsPicked sends h t) (sym hand)
     (subst (λ (x : Option ℕ). option_map label_of_pick (picked (fold scene_after (scene_of old) phase.own) (waiting_of (left_of sends phase.own)) (number_of (drawn x))) ≡ Some t.label) phase.drawn_once_a_turn
@@ -81,8 +81,7 @@ phase_on old now new order so_far next sends left after p phase is turn is_next 
     record {
       own = phase.own ++ turn.turn ∷ [];
       beats = turn.goes.beats ∙ ap (λ (bs : List Beat). bs ++ turn.turn ∷ []) phase.beats ∙ append_assoc (beats_of old) phase.own (turn.turn ∷ []);
-      size = turn.goes.size ∙ phase.size;
-      primary = turn.goes.primary ∙ phase.primary;
+      made = turn.goes.made ∙ phase.made;
       kinds = all_more (λ (t : Beat). is_of_phase t.label) phase.own turn.turn phase.kinds turn.kind;
       arrivals = λ i. phase.arrivals i ∙ ap (λ (xs : List Sent). arrived_in i phase.own ++ xs) (turn.arrivals i)
           ∙ sym (append_assoc (arrived_in i phase.own) (arrived_by i turn.turn.entries) (after i)) ∙ ap (λ (xs : List Sent). xs ++ after i) (sym (came_more i phase.own turn.turn));
@@ -178,13 +177,12 @@ phase_done old now order so_far sends queues x phase eight on room none progress
     let parts = both_empty (map Arrive (filter (arrives (waiting_of left)) initiators)) (map (λ (m : Member). Work m.task.c) (filter (is_able (scene_of now)) (scene_of now).hist.set)) (sym (able-is (scene_of now) (waiting_of left)) ∙ unable) in
     let sent = all_sent queues eight (map_empty Arrive (filter (arrives (waiting_of left)) initiators) parts.0) in
     let empty = none_in (scene_of now) progress (able_alone (scene_of now) (waiting_of left) unable) in
-    let scene = scene_on old now phase.own phase.beats phase.size phase.primary in
+    let scene = scene_on old now phase.own phase.beats phase.made in
     let few = phase.few in (
       record {
         own = phase.own;
         beats = phase.beats;
-        size = phase.size;
-        primary = phase.primary;
+        made = phase.made;
         phase = record {
           phase = record {
             kinds = phase.kinds;

@@ -8,7 +8,7 @@ use Rattle.geometry_map.specs.Size.{capacity_of}
 use Rattle.platter_model.specs.declared.op.Op.{Op}
 use Rattle.platter_model.specs.TrueLog.{strays, strays_from}
 use Rattle.script_text.specs.declared.script.Line.{Line}
-use Rattle.script_text.specs.declared.script.Line.TheVariants.{Go, World}
+use Rattle.script_text.specs.declared.script.Line.TheVariants.{Command, Function, Scan, Destage, Go, World}
 use Rattle.block_machine.specs.declared.entry.Entry.{Entry}
 use Rattle.block_machine.specs.declared.entry.Entry.TheVariants.{Get}
 use Rattle.block_machine.specs.declared.turn.Turn.{Turn}
@@ -30,6 +30,7 @@ use Rattle.script_runner.specs.Order.{order_after}
 use Rattle.script_runner.specs.Phase.{ByOrder}
 use Rattle.script_runner.specs.CarriedOut.{CarryOut}
 use Rattle.script_runner.specs.Run.{beats_of, drive_run}
+use Rattle.script_runner.specs.Script.{made_for}
 use Rattle.script_runner.specs.Laws.{OfGoodRuns, OfRunsWithoutStrays, AreLegal, AreTaskLegal, BeginningsAreLegal, NoneIsLeft, AllThatCameAreGone, GetsAreShown}
 
 -- strays of a beginning are some of all
@@ -49,7 +50,7 @@ none_before s turns none =
     let all = ap strays rest.1 in
     omega arith
 
-legal_along : (ops : List Op) (turns : List Turn) (s : Scene) (blocks : ℕ) → capacity s ≡ blocks → Along scene_after GoodTurn s (map (beat_of ops) turns)
+pub legal_along : (ops : List Op) (turns : List Turn) (s : Scene) (blocks : ℕ) → capacity s ≡ blocks → Along scene_after GoodTurn s (map (beat_of ops) turns)
     → strays (fold scene_after s (map (beat_of ops) turns)).ops ≡ 0 → legal_from blocks s.hist turns ≡ true
 legal_along ops [] s blocks is all none = refl
 legal_along ops (t ∷ turns) s blocks is all none =
@@ -62,10 +63,10 @@ legal_along ops (t ∷ turns) s blocks is all none =
 
 pub runs_are_legal : OfRunsWithoutStrays AreLegal
 runs_are_legal order script turns ops good none =
-    legal_along ops turns (scene_at_start good.size script.primary.items) (capacity_of good.size) refl good.history.good (ap strays good.history.own ∙ none)
+    legal_along ops turns (scene_at_start (made_for good.size script)) (capacity_of good.size) refl good.history.good (ap strays good.history.own ∙ none)
 
 -- as far as commands go, turns are legal whatever was taken for another payload
-tasks_along : (ops : List Op) (turns : List Turn) (s : Scene) (blocks : ℕ) → capacity s ≡ blocks → Along scene_after GoodTurn s (map (beat_of ops) turns)
+pub tasks_along : (ops : List Op) (turns : List Turn) (s : Scene) (blocks : ℕ) → capacity s ≡ blocks → Along scene_after GoodTurn s (map (beat_of ops) turns)
     → task_legal_from blocks s.hist turns ≡ true
 tasks_along ops [] s blocks is all = refl
 tasks_along ops (t ∷ turns) s blocks is all =
@@ -76,7 +77,7 @@ tasks_along ops (t ∷ turns) s blocks is all =
 
 pub runs_are_task_legal : OfGoodRuns AreTaskLegal
 runs_are_task_legal order script turns ops good =
-    tasks_along ops turns (scene_at_start good.size script.primary.items) (capacity_of good.size) refl good.history.good
+    tasks_along ops turns (scene_at_start (made_for good.size script)) (capacity_of good.size) refl good.history.good
 
 -- what holds of each legal history holds of each run without strays
 pub of_legal : (Fact : ℕ → List Turn → Type 0) → OfLegalHistories Fact → OfRunsWithoutStrays Fact
@@ -105,11 +106,15 @@ empty_at_end (Go ∷ lines) order s waiting turns out =
     (subst (λ (k : Scene). k.hist.set ≡ []) (sym (fold-append scene_after s out.0 out.1)) (empty_at_end lines (order_after order out.0) (fold scene_after s out.0) [] out.1 out.4))
 empty_at_end (World w ∷ lines) order s waiting turns out =
     subst (λ (ts : List Beat). (fold scene_after s ts).hist.set ≡ []) (sym out.2) (empty_at_end lines order (scene_after s out.0) waiting out.1 out.4)
-empty_at_end (line ∷ lines) order s waiting turns out = empty_at_end lines order s (waiting ++ line ∷ []) turns out
+empty_at_end (Command i tag attribute cdb sent ∷ lines) order s waiting turns out =
+    empty_at_end lines order s (waiting ++ Command i tag attribute cdb sent ∷ []) turns out
+empty_at_end (Function i what ∷ lines) order s waiting turns out = empty_at_end lines order s (waiting ++ Function i what ∷ []) turns out
+empty_at_end (Scan count ∷ lines) order s waiting turns out = absurd out
+empty_at_end (Destage count ∷ lines) order s waiting turns out = absurd out
 
 pub none_is_left : OfGoodRuns NoneIsLeft
 none_is_left order script turns ops good =
-    let start = scene_at_start good.size script.primary.items in
+    let start = scene_at_start (made_for good.size script) in
     subst (λ (h : State). h.set ≡ []) (state_along ops turns start (capacity_of good.size) refl)
     (empty_at_end script.lines order start [] (beats_of (drive_run good.size script turns ops)) good.carried_out)
 
@@ -131,8 +136,8 @@ along_at step P s (z ∷ xs) ys x all = along_at step P (step s z) xs ys x all.1
 
 pub gets_are_shown : GetsAreShown
 gets_are_shown order script turns ops good before after t earlier rest c b v is_t is_e clean =
-    let start = scene_at_start good.size script.primary.items in
+    let start = scene_at_start (made_for good.size script) in
     let turn = along_at scene_after GoodTurn start before after t (subst (λ (ts : List Beat). Along scene_after GoodTurn start ts) is_t good.history.good) in
     let s = fold scene_after start before in
-    along_at (entry_after (capacity s) t.label) (Shows s t) (begun s.hist t.label) earlier rest (Get c b v)
-    (subst (λ (es : List Entry). Along (entry_after (capacity s) t.label) (Shows s t) (begun s.hist t.label) es) is_e turn.shown) clean
+    (along_at (entry_after (capacity s) t.label) (Shows s t) (begun s.hist t.label) earlier rest (Get c b v)
+    (subst (λ (es : List Entry). Along (entry_after (capacity s) t.label) (Shows s t) (begun s.hist t.label) es) is_e turn.shown)).1 clean

@@ -34,10 +34,10 @@ use Rattle.drive_scene.specs.GoodTurn.{GoodTurn}
 use Rattle.drive_scene.specs.Run.{Run, IsGoodRun, scene_of, beat_of}
 use Rattle.drive_scene.specs.declared.answer.TurnAnswer.TheVariants as answer
 use Rattle.drive_scene.specs.Able.{refusal_of_work, work_refused}
-use Rattle.drive_scene.specs.Turning.{initiator_of}
+use Rattle.drive_scene.specs.Turning.{initiator_of, entry_of}
 use Rattle.script_runner.specs.Each.{Each}
 use Rattle.script_runner.specs.Ages.{Between}
-use Rattle.script_runner.specs.Arrivals.{Sends, sent_by, arrival_of_entry}
+use Rattle.script_runner.specs.Arrivals.{Sends, arriving, sent_by, arrival_of_entry}
 use Rattle.script_runner.specs.Phase.{is_of_phase}
 use Rattle.script_runner.specs.Phasing.{AreServed, IsAtHand, IsToSend, Fetches, MakesTurn, TakesTurn}
 use Rattle.script_runner.proofs.Beats.{NextTurn, next_turn, scene_next}
@@ -109,7 +109,7 @@ ages_along s [] all ages = ages
 ages_along s (t ∷ turns) all ages = ages_along (scene_after s t) turns all.1 (turn_ages (capacity s) t.label s.hist t.entries all.0.tasks ages)
 
 pub ages_of : (r : Run) → IsGoodRun r → Between 0 (scene_of r).hist.set (scene_of r).hist.arrived
-ages_of r good = ages_along (scene_at_start r.size r.primary) (map (beat_of r.ops) r.turns) good.good (omega arith)
+ages_of r good = ages_along (scene_at_start r.made) (map (beat_of r.ops) r.turns) good.good (omega arith)
 
 -- a turn of work on a command that is in takes off the turns that are left
 work_fewer : (s : Scene) (t : Beat) (c : ℕ) (sends left : Sends) → t.label ≡ label.Work c → GoodTurn s t → Between 0 s.hist.set s.hist.arrived → (m : Member) → member_of s.hist.set c ≡ Some m
@@ -144,7 +144,7 @@ picked_is_in s c is = go (member_of s.hist.set c) refl is
 -- an arrival takes off the turns that are left
 arrival_fewer : (s : Scene) (t : Beat) (sends left : Sends) (i c : ℕ) (tag : Tag) (a : Attribute) (cdb : List ℕ) (sent : DataOut) (rest : List Entry)
     → label.Arrive i ≡ t.label → t.entries ≡ entry.Arrived c i tag a cdb sent ∷ rest → c ≡ s.hist.arrived + 1 → is_answered (is_full s.hist) c rest ≡ true → 1 ≤ i → i ≤ 8
-    → sends i ≡ Command i tag a cdb sent ∷ left i → ((j : ℕ) → j ≢ i → left j ≡ sends j) → turns_of_phase (scene_after s t) left < turns_of_phase s sends
+    → sends i ≡ Command (arriving i tag a cdb sent) ∷ left i → ((j : ℕ) → j ≢ i → left j ≡ sends j) → turns_of_phase (scene_after s t) left < turns_of_phase s sends
 arrival_fewer s t sends left i c tag a cdb sent rest is_label is_entries next ok low high first others =
     subst (λ (l : Label). let b : Beat = record { label = l; entries = t.entries; ops = t.ops } in turns_of_phase (scene_after s b) left < turns_of_phase s sends) is_label
     (subst (λ (es : List Entry). let b : Beat = record { label = label.Arrive i; entries = es; ops = t.ops } in turns_of_phase (scene_after s b) left < turns_of_phase s sends) (sym is_entries)
@@ -193,18 +193,18 @@ module _ (old new : Run) (sends left : Sends) (served : AreServed sends) where
       let ok = (both (k == k) (are_aborted cs rest) lawful).1 in
       let came : filter_map arrival_of_entry t.entries ≡ Function k what ∷ [] = rw (next.arrival.1, none_arrived rest (aborted cs rest ok)) refl in
       took (Function k what) can next is_label is came (function_fewer (scene_of old) t sends left k what cs rest is_label next.arrival.1 ok can.0 can.1 is.0 is.2)
-  take_sent (Command k tag attribute cdb sent) can made is =
-      let next = next_turn old (event.Arrive (Command k tag attribute cdb sent)) new made in
+  take_sent (Command x) can made is =
+      let next = next_turn old (event.Arrive (Command x)) new made in
       let t = next.turn in
       let rest = next.arrival.0 in
-      let is_label : label.Arrive k ≡ t.label = cc in
+      let is_label : label.Arrive x.initiator ≡ t.label = cc in
       let h = (scene_of old).hist in
       let c = h.arrived + 1 in
-      let lawful = may_arrive k t (entry.Arrived c k tag attribute cdb sent ∷ rest) is_label next.good next.arrival.1 in
-      let shape = arrives (capacity (scene_of old)) h k c k tag attribute cdb sent rest lawful in
-      let came : filter_map arrival_of_entry t.entries ≡ Command k tag attribute cdb sent ∷ [] = rw (next.arrival.1, none_arrived rest shape.nothing_else) refl in
-      took (Command k tag attribute cdb sent) can next is_label is came
-      (arrival_fewer (scene_of old) t sends left k c tag attribute cdb sent rest is_label next.arrival.1 refl shape.answered can.0 can.1 is.0 is.2)
+      let lawful = may_arrive x.initiator t (entry_of c x ∷ rest) is_label next.good next.arrival.1 in
+      let shape = arrives (capacity (scene_of old)) h x.initiator c x.initiator x.tag x.attribute x.cdb x.sent rest lawful in
+      let came : filter_map arrival_of_entry t.entries ≡ Command x ∷ [] = rw (next.arrival.1, none_arrived rest shape.nothing_else) refl in
+      took (Command x) can next is_label is came
+      (arrival_fewer (scene_of old) t sends left x.initiator c x.tag x.attribute x.cdb x.sent rest is_label next.arrival.1 refl shape.answered can.0 can.1 is.0 is.2)
 
   take_arrival : (i : ℕ) (a : Arrival) → CanCome (scene_of old) sends (Arrive i) → MakesTurn old (event.Arrive a) new → Fetches sends (Arrive i) (event.Arrive a) left → TakesTurn old sends (Arrive i) new left
   take_arrival i a can made is =

@@ -17,8 +17,7 @@ use Rattle.script_runner.specs.Run.{beats_of}
 pub record InPhase (old : Run) (order : Option ℕ) (sends : Sends) (now : Run) (so_far : Option ℕ) (left : Sends) : Type 0 where
   pub own : List Beat
   pub beats : beats_of now ≡ beats_of old ++ own
-  pub size : now.size ≡ old.size
-  pub primary : now.primary ≡ old.primary
+  pub made : now.made ≡ old.made
   pub kinds : IsTrue (list_all (λ t. is_of_phase t.label) own)
   pub arrivals : (i : ℕ) → sends i ≡ arrived_in i own ++ left i
   pub by_rule : ByOrder order (scene_of old) sends own
@@ -32,5 +31,5 @@ pub record InScript (start : Run) (order : Option ℕ) (lines rest : List Line) 
   pub waits : Wait waiting sends
   pub at_rest : IsAtRest now sends
   pub leads : Leads start order [] lines now so_far waiting rest
-  pub few : length now.turns + turns_to_send (capacity_of now.size) sends + turns_of_lines (capacity_of now.size) rest
-      ≤ length start.turns + turns_of_lines (capacity_of start.size) lines
+  pub few : length now.turns + turns_to_send (capacity_of now.made.size) sends + turns_of_lines (capacity_of now.made.size) rest
+      ≤ length start.turns + turns_of_lines (capacity_of start.made.size) lines

@@ -1,12 +1,16 @@
 -- What arrives at a drive from each initiator: by the lines of a script, and in turns.
 use Rattle.std.specs.Prelude.{◌≡◌, ℕ, ◌==◌, List, [], ◌∷◌, ◌++◌, filter, filter_map, flat_map, drop, length, slice_index_or, Option, Some, None}
 use Rattle.disk_base.specs.At.{put_at}
+use Rattle.disk_base.specs.declared.address.Tag.{Tag}
+use Rattle.disk_base.specs.declared.command.Attribute.{Attribute}
+use Rattle.disk_base.specs.declared.command.DataOut.{DataOut}
 use Rattle.block_machine.specs.declared.entry.Entry.{Entry}
 use Rattle.block_machine.specs.declared.entry.Entry.TheVariants as entry
 use Rattle.script_text.specs.declared.script.Line.{Line}
 use Rattle.script_text.specs.declared.script.Line.TheVariants as line
 use Rattle.drive_scene.specs.declared.event.Arrival.{Arrival}
 use Rattle.drive_scene.specs.declared.event.Arrival.TheVariants.{Command, Function}
+use Rattle.drive_scene.specs.declared.event.Arriving.{Arriving}
 use Rattle.drive_scene.specs.Scene.{Beat}
 use Rattle.drive_scene.specs.Turning.{initiator_of}
 
@@ -28,15 +32,19 @@ pub record Taken (old new : List (List Arrival)) (i : ℕ) (a : Arrival) : Type 
   pub first : sends_of old i ≡ a ∷ rest
   pub left : (j : ℕ) → sends_of new j ≡ put_at i rest (sends_of old) j
 
+-- a command of these parts
+abbrev pub arriving : ℕ → Tag → Attribute → List ℕ → DataOut → Arriving
+arriving i tag attribute cdb sent = record { initiator = i; tag = tag; attribute = attribute; cdb = cdb; sent = sent }
+
 -- what arrives by a line
 abbrev pub arrival_of_line : Line → Option Arrival
-arrival_of_line (line.Command i tag attribute cdb sent) = Some (Command i tag attribute cdb sent)
+arrival_of_line (line.Command i tag attribute cdb sent) = Some (Command (arriving i tag attribute cdb sent))
 arrival_of_line (line.Function i what) = Some (Function i what)
 arrival_of_line other = None
 
 -- what arrived by an entry
 abbrev pub arrival_of_entry : Entry → Option Arrival
-arrival_of_entry (entry.Arrived c i tag attribute cdb sent) = Some (Command i tag attribute cdb sent)
+arrival_of_entry (entry.Arrived c i tag attribute cdb sent) = Some (Command (arriving i tag attribute cdb sent))
 arrival_of_entry (entry.Asked i what) = Some (Function i what)
 arrival_of_entry other = None
 

@@ -2,7 +2,7 @@
 use Rattle.std.specs.Prelude.{◌≡◌, ℕ, List, [], ◌∷◌, ◌++◌, fold, Option}
 use Rattle.block_machine.specs.declared.turn.Label.TheVariants as label
 use Rattle.script_text.specs.declared.script.Line.{Line}
-use Rattle.script_text.specs.declared.script.Line.TheVariants.{Go, World}
+use Rattle.script_text.specs.declared.script.Line.TheVariants.{Command, Function, Scan, Destage, Go, World}
 use Rattle.drive_scene.specs.Scene.{Scene, Beat, scene_after}
 use Rattle.script_runner.specs.Arrivals.{Sends, lines_of}
 use Rattle.script_runner.specs.Order.{order_after}
@@ -25,4 +25,9 @@ CarryOut rule order s waiting (Go ∷ lines) turns = (own : List Beat) × (rest 
     × CarriesPhase rule order s (lines_of waiting) own × CarryOut rule (order_after order own) (fold scene_after s own) [] lines rest
 CarryOut rule order s waiting (World event ∷ lines) turns = (t : Beat) × (rest : List Beat) × (turns ≡ t ∷ rest)
     × (t.label ≡ label.World event) × CarryOut rule order (scene_after s t) waiting lines rest
-CarryOut rule order s waiting (line ∷ lines) turns = CarryOut rule order s (waiting ++ line ∷ []) lines turns
+CarryOut rule order s waiting (Command i tag attribute cdb sent ∷ lines) turns =
+    CarryOut rule order s (waiting ++ Command i tag attribute cdb sent ∷ []) lines turns
+CarryOut rule order s waiting (Function i what ∷ lines) turns = CarryOut rule order s (waiting ++ Function i what ∷ []) lines turns
+-- no scan or destage is carried out yet
+CarryOut rule order s waiting (Scan count ∷ lines) turns = ⊥
+CarryOut rule order s waiting (Destage count ∷ lines) turns = ⊥

@@ -1,17 +1,15 @@
 -- What holds of every good run of a script.
-use Rattle.std.specs.Prelude.{◌≡◌, ℕ, ◌+◌, false, IsTrue, List, [], ◌∷◌, ◌++◌, fold, slice_get, Option, Some}
+use Rattle.std.specs.Prelude.{◌≡◌, ℕ, ◌+◌, false, IsTrue, List, [], ◌∷◌, ◌++◌, fold, Option, length}
 use Rattle.disk_base.specs.declared.address.Lba.{Lba}
 use Rattle.disk_base.specs.declared.address.Psn.{Psn}
 use Rattle.disk_base.specs.declared.block.Value.{Value}
 use Rattle.disk_base.specs.declared.block.Value.TheVariants.{Lost}
-use Rattle.disk_base.specs.declared.stage.Stage.{Stage}
 use Rattle.read_recovery.specs.Stages.{stages_of}
 use Rattle.geometry_map.specs.declared.size.Size.{Size}
 use Rattle.geometry_map.specs.DefectMap.{place_of}
 use Rattle.geometry_map.specs.Size.{capacity_of}
 use Rattle.platter_model.specs.declared.op.Op.{Op}
 use Rattle.platter_model.specs.TrueLog.{strays}
-use Rattle.sector_store.specs.Tries.{FoundNothing}
 use Rattle.script_text.specs.declared.script.Script.{Script}
 use Rattle.block_machine.specs.declared.entry.Entry.{Entry}
 use Rattle.block_machine.specs.declared.entry.Entry.TheVariants.{Get}
@@ -22,8 +20,9 @@ use Rattle.block_machine.specs.Laws.{tally_of}
 use Rattle.block_machine.specs.State.{State}
 use Rattle.block_machine.specs.Steps.{begun, entries_after}
 use Rattle.drive_scene.specs.Scene.{Scene, Beat, capacity, scene_at_start, scene_after}
-use Rattle.drive_scene.specs.Evidence.{IsGotShown, window_now}
+use Rattle.drive_scene.specs.Evidence.{IsGotShown, FailedBelow, window_now, settings_now}
 use Rattle.script_runner.specs.Run.{IsGood, beats_of, drive_run}
+use Rattle.script_runner.specs.Script.{made_for}
 
 -- a fact holds of the turns of each good run, over a disk of so many blocks
 abbrev pub OfGoodRuns : (ℕ → List Turn → Type 0) → Type 0
@@ -57,7 +56,7 @@ AllThatCameAreGone blocks turns = (tally_of (entries_of turns)).came
 
 -- what a drive has come to before a turn, and before an entry of it
 abbrev pub scene_before : Size → Script → List Beat → Scene
-scene_before size script before = fold scene_after (scene_at_start size script.primary.items) before
+scene_before size script before = fold scene_after (scene_at_start (made_for size script)) before
 
 abbrev pub state_before : Scene → Beat → List Entry → State
 state_before s t entries = entries_after (capacity s) t.label (begun s.hist t.label) entries
@@ -69,15 +68,15 @@ abbrev pub GetsAreShown : Type 0
 GetsAreShown = (order : Option ℕ) (script : Script) (turns : List Turn) (ops : List Op) (good : IsGood order script turns ops) (before after : List Beat) (t : Beat) (earlier rest : List Entry) (c : ℕ) (b : Lba) (v : Value)
     → beats_of (drive_run good.size script turns ops) ≡ before ++ t ∷ after → t.entries ≡ earlier ++ Get c b v ∷ rest
     → let s = scene_before good.size script before in let h = state_before s t earlier in
-    is_dirty (h.blocks b.0) ≡ false → IsGotShown s t h c b v
+    is_dirty (h.blocks b.0) ≡ false → IsGotShown s (window_now s t c) (settings_now s t c) h c b v
 
--- each stage of a retry count found nothing at a sector
+-- a window is, as a list, the tries of all stages of a retry count at a sector, in their order, and each found nothing
 abbrev pub EachStageFailed : List Op → Psn → ℕ → Type 0
-EachStageFailed window p retry = (k : ℕ) (stage : Stage) → slice_get (stages_of retry) k ≡ Some stage → FoundNothing window p stage
+EachStageFailed window p retry = FailedBelow window p retry (length (stages_of retry))
 
 -- a law: in a good run without strays a block is read as lost only where each stage failed
 abbrev pub BadReadsAreShown : Type 0
 BadReadsAreShown = (order : Option ℕ) (script : Script) (turns : List Turn) (ops : List Op) (good : IsGood order script turns ops) → strays ops ≡ 0
     → (before after : List Beat) (t : Beat) (earlier rest : List Entry) (c : ℕ) (b : Lba)
     → beats_of (drive_run good.size script turns ops) ≡ before ++ t ∷ after → t.entries ≡ earlier ++ Get c b Lost ∷ rest
-    → let s = scene_before good.size script before in EachStageFailed (window_now s t c) (place_of s.map b) (s.settings c).retry
+    → let s = scene_before good.size script before in EachStageFailed (window_now s t c) (place_of s.map b) (settings_now s t c).retry

@@ -25,16 +25,15 @@ pub record IsAtRest (r : Run) (sends : Sends) : Type 0 where
 pub record Leads (old : Run) (order : Option ℕ) (waiting lines : List Line) (new : Run) (next : Option ℕ) (after rest : List Line) : Type 0 where
   pub own : List Beat
   pub beats : beats_of new ≡ beats_of old ++ own
-  pub size : new.size ≡ old.size
-  pub primary : new.primary ≡ old.primary
+  pub made : new.made ≡ old.made
   pub completes : (turns : List Beat) → CarryOut ByOrder next (scene_of new) after rest turns
       → CarryOut ByOrder order (scene_of old) waiting lines (own ++ turns)
 
 -- a line was taken: with any lines that wait it leads on
 pub record TakesLine (old : Run) (order : Option ℕ) (sends : Sends) (line : Line) (new : Run) (next : Option ℕ) (left : Sends) : Type 0 where
   pub at_rest : IsAtRest new left
-  pub few : length new.turns + turns_to_send (capacity_of new.size) left
-      ≤ length old.turns + turns_to_send (capacity_of old.size) sends + turns_of_line (capacity_of old.size) line
+  pub few : length new.turns + turns_to_send (capacity_of new.made.size) left
+      ≤ length old.turns + turns_to_send (capacity_of old.made.size) sends + turns_of_line (capacity_of old.made.size) line
   pub leads : (waiting : List Line) → Wait waiting sends → (after : List Line) × Wait after left
       × ((rest : List Line) → Leads old order waiting (line ∷ rest) new next after rest)
 
@@ -42,7 +41,6 @@ pub record TakesLine (old : Run) (order : Option ℕ) (sends : Sends) (line : Li
 pub record CarriesOut (old : Run) (order : Option ℕ) (lines : List Line) (new : Run) : Type 0 where
   pub own : List Beat
   pub beats : beats_of new ≡ beats_of old ++ own
-  pub size : new.size ≡ old.size
-  pub primary : new.primary ≡ old.primary
-  pub few : length new.turns ≤ length old.turns + turns_of_lines (capacity_of old.size) lines
+  pub made : new.made ≡ old.made
+  pub few : length new.turns ≤ length old.turns + turns_of_lines (capacity_of old.made.size) lines
   pub carried : CarryOut ByOrder order (scene_of old) [] lines own

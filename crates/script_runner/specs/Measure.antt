@@ -17,7 +17,7 @@ use Rattle.drive_scene.specs.declared.event.Arrival.{Arrival}
 use Rattle.drive_scene.specs.declared.event.Arrival.TheVariants.{Command, Function}
 use Rattle.drive_scene.specs.Scene.{Scene, capacity}
 use Rattle.drive_scene.specs.GoodTurn.{window_at_most}
-use Rattle.script_runner.specs.Arrivals.{Sends}
+use Rattle.script_runner.specs.Arrivals.{Sends, arriving}
 
 -- the entries of a command that still owes a plan: of a block that is read, or written, two; and its end
 abbrev pub steps_of : Plan → ℕ
@@ -74,8 +74,8 @@ sum_upto f (suc n) = sum_upto f n + f (suc n)
 
 -- the turns of what is still to arrive, on a drive of so many blocks
 abbrev pub turns_of_arrival : ℕ → Arrival → ℕ
-turns_of_arrival blocks (Command i tag attribute cdb sent) =
-    1 + turns_a_step * (steps_asked (read_of cdb sent blocks) + 1) + window_at_most + turns_to_move
+turns_of_arrival blocks (Command x) =
+    1 + turns_a_step * (steps_asked (read_of x.cdb x.sent blocks) + 1) + window_at_most + turns_to_move
 turns_of_arrival blocks (Function i what) = 1
 
 -- of each of the eight initiators
@@ -88,7 +88,7 @@ turns_of_phase s sends = turns_to_send (capacity s) sends + sum_upto (turns_left
 
 -- at most so many turns does a line have
 abbrev pub turns_of_line : ℕ → Line → ℕ
-turns_of_line blocks (line.Command i tag attribute cdb sent) = turns_of_arrival blocks (Command i tag attribute cdb sent)
+turns_of_line blocks (line.Command i tag attribute cdb sent) = turns_of_arrival blocks (Command (arriving i tag attribute cdb sent))
 turns_of_line blocks (line.Scan count) = turns_of_scan * count
 turns_of_line blocks (line.Destage count) = count
 turns_of_line blocks other = 1

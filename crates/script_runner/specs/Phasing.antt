@@ -44,8 +44,7 @@ Fetches old p e new = ⊥
 -- a drive of the same measures has one turn more
 pub record GoesOn (old new : Run) (t : Beat) : Type 0 where
   pub beats : beats_of new ≡ beats_of old ++ t ∷ []
-  pub size : new.size ≡ old.size
-  pub primary : new.primary ≡ old.primary
+  pub made : new.made ≡ old.made
 
 -- the turn of an event came, and the drive's run was good before it and is after it
 pub record MakesTurn (old : Run) (e : Event) (new : Run) : Type 0 where
@@ -69,8 +68,7 @@ pub record TakesTurn (old : Run) (sends : Sends) (p : Pick) (new : Run) (left : 
 pub record Carried (old : Run) (order : Option ℕ) (sends : Sends) (new : Run) (next : Option ℕ) : Type 0 where
   pub own : List Beat
   pub beats : beats_of new ≡ beats_of old ++ own
-  pub size : new.size ≡ old.size
-  pub primary : new.primary ≡ old.primary
+  pub made : new.made ≡ old.made
   pub phase : CarriesPhase ByOrder order (scene_of old) sends own
   pub drawn_once_a_turn : next ≡ order_after order own
   pub few : length new.turns ≤ length old.turns + turns_of_phase (scene_of old) sends

@@ -8,6 +8,7 @@ use Rattle.script_text.specs.declared.script.Script.{Script}
 use Rattle.script_text.specs.Measures.{measures_of, given_or_default}
 use Rattle.script_text.specs.Standing as text
 use Rattle.geometry_map.specs.Size.{capacity_of}
+use Rattle.drive_scene.specs.declared.made.Made.{Made}
 use Rattle.drive_scene.specs.Run.{Run, run_at_start}
 use Rattle.drive_scene.specs.Able.{turns_at_most}
 use Rattle.drive_core.specs.Served.{is_served_cdb, IsServedWorld}
@@ -20,6 +21,10 @@ blocks_of script = text.capacity_of (given_or_default (option_map measures_of sc
 -- the drive has the measures that a script gives, or the default ones
 abbrev pub HasMeasures : Option Size → Size → Type 0
 HasMeasures given size = measures_of size ≡ given_or_default (option_map measures_of given)
+
+-- what the factory of a drive of these measures is told for a script
+abbrev pub made_for : Size → Script → Made
+made_for size script = record { size = size; primary = script.primary.items }
 
 -- a line that the drive serves
 abbrev pub IsServedLine : Size → Line → Type 0
@@ -41,4 +46,4 @@ pub record CanBeCarriedOut (size : Size) (script : Script) : Type 0 where
 pub record IsFresh (script : Script) (r : Run) : Type 0 where
   pub size : Size
   pub measures : HasMeasures script.size size
-  pub is : r ≡ run_at_start size script.primary.items
+  pub is : r ≡ run_at_start (made_for size script)

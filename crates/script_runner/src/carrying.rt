@@ -16,7 +16,7 @@ use crate::order::Order;
 use crate::phase::{carry_phase, make_turn};
 use crate::queues::Queues;
 use disk_base::NoMemory;
-use drive_core::{Arrival, Drive, Event};
+use drive_core::{Arrival, Arriving, Drive, Event};
 use geometry_map::Size;
 use platter_model::World;
 use report_text::Run;
@@ -68,9 +68,9 @@ fn size_of(given: Option<Size>) -> Size
 
 // What waits when a line ends a phase, and at the end, is carried out.
 fn carry_out(alloc: Global, drive: &mut Drive, lines: &[Line], order: Order) -> Result<(), NoMemory>
-    requires served { All (IsServedLine drive.old.size) lines.now }
+    requires served { All (IsServedLine drive.old.made.size) lines.now }
     requires fresh { (scene_of drive.old).hist.set ≡ [] }
-    requires room { length drive.old.turns + turns_of_lines (capacity_of drive.old.size) lines.now < turns_at_most }
+    requires room { length drive.old.turns + turns_of_lines (capacity_of drive.old.made.size) lines.now < turns_at_most }
     ensures { OnOk result (CarriesOut drive.old order.x lines.now drive.new) }
 {
     let mut queues = Queues::new(alloc)?;
@@ -88,10 +88,10 @@ fn take_line(
     order: &mut Order,
     line: &Line,
 ) -> Result<(), NoMemory>
-    requires served { IsServedLine drive.old.size line.now }
+    requires served { IsServedLine drive.old.made.size line.now }
     requires at_rest { IsAtRest drive.old (sends_of queues.old) }
-    requires room { length drive.old.turns + turns_to_send (capacity_of drive.old.size) (sends_of queues.old)
-        + turns_of_line (capacity_of drive.old.size) line.now < turns_at_most }
+    requires room { length drive.old.turns + turns_to_send (capacity_of drive.old.made.size) (sends_of queues.old)
+        + turns_of_line (capacity_of drive.old.made.size) line.now < turns_at_most }
     ensures { OnOk result
         (TakesLine drive.old order.old.x (sends_of queues.old) line.now drive.new order.new.x (sends_of queues.new)) }
 {
@@ -103,13 +103,13 @@ fn take_line(
             cdb,
             sent,
         } => {
-            let arrival = Arrival::Command {
+            let arrival = Arrival::Command(Arriving {
                 initiator: *initiator,
                 tag: *tag,
                 attribute: *attribute,
                 cdb: cdb.copy(),
                 sent: sent.copy(alloc)?,
-            };
+            });
             queues.put(*initiator, arrival)
         }
         Line::Function { initiator, what } => {
@@ -127,7 +127,7 @@ fn take_line(
 
 // Something happens to the drive from outside.
 fn happen(drive: &mut Drive, world: World) -> Result<(), NoMemory>
-    requires served { IsServed drive.old.size (event.World world) }
+    requires served { IsServed drive.old.made.size (event.World world) }
     requires room { length drive.old.turns < turns_at_most }
     ensures { OnOk result (Happens drive.old world drive.new) }
 {

@@ -5,6 +5,7 @@
 ghost use Rattle.block_machine.specs.Laws.{ReadsGiveWhatWasPutLast, HardenedValuesStay, ReadsGiveHardenedOrNewer, FirstReadSettles, ReadsGetEachBlockOnce, ForcedWritesAreHardened, SyncsFindEachBlockHardened, EndsHaveTheirStatus, NoneEndsTwice, SuccessesFollowStarts};
 ghost use Rattle.script_runner.specs.Laws.{OfGoodRuns, OfRunsWithoutStrays, AreLegal, AreTaskLegal, BeginningsAreLegal, NoneIsLeft, AllThatCameAreGone, GetsAreShown, BadReadsAreShown};
 
+use drive_scene::maps_stay;
 use geometry_map::{blocks_are_at_user_sectors, two_blocks_are_never_at_one_sector};
 
 /// Without strays, what initiators see is a legal history of an array of blocks. As far as commands go, it always is.
@@ -76,6 +77,7 @@ pub fn gets_are_shown()
     ensures found { GetsAreShown }
     ensures bad { BadReadsAreShown }
 {
+    maps_stay();
     two_blocks_are_never_at_one_sector();
     blocks_are_at_user_sectors();
 }

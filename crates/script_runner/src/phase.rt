@@ -47,7 +47,7 @@ fn take_turn(drive: &mut Drive, queues: &mut Queues, pick: Pick) -> Result<(), N
 
 /// The turn of an event that isn't refused.
 pub(crate) fn make_turn(drive: &mut Drive, event: Event) -> Result<(), NoMemory>
-    requires served { IsServed drive.old.size event }
+    requires served { IsServed drive.old.made.size event }
     requires free { refusal drive.old event ≡ None }
     ensures { OnOk result (MakesTurn drive.old event drive.new) }
 {

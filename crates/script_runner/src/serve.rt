@@ -1,6 +1,6 @@
 //! The top call: one script in, one report out.
 
-ghost use Rattle.std.specs.Prelude.{◌≡◌, ◌↔◌, ℕ, Err, IfOk, IsOk};
+ghost use Rattle.std.specs.Prelude.{◌≡◌, ◌≢◌, ◌↔◌, ℕ, Err, IfOk, IsOk};
 ghost use Rattle.outside.specs.Faults.{Rises};
 ghost use Rattle.script_runner.specs.Words.{texts_of, order_asked, order_of};
 ghost use Rattle.script_runner.specs.Outcome.{SourceOf, SinkOf, IsQuiet, IsWriteFault, IsServedIfMemory, IsBounded, HasFewTurns, HasScript, Ran};
@@ -36,6 +36,7 @@ pub fn serve_alone<S: Source, K: Sink>(
     ensures turns { IsBounded result }
 
     ensures read_fault { result ≡ Outcome.ReadFault → Rises (S.faults source.old) (S.faults source.new) }
+    ensures no_read_fault { result ≢ Outcome.ReadFault → S.faults source.new ≡ S.faults source.old }
     ensures write_fault { IsWriteFault result → Rises (K.faults sink.old) (K.faults sink.new) }
 
     // Lawful words, a script that is served, and no fault give Served, unless memory runs out.

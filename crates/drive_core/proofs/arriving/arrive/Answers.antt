@@ -1,12 +1,11 @@
 use Rattle.std.proofs.Common.{◌+◌, ◌≤◌, ℕ, Some, None, refl, sym, subst}
 use Rattle.std.specs.Vec.{vec_capacity}
 use Rattle.block_machine.specs.declared.turn.Label.TheVariants as label
-use Rattle.drive_core.specs.declared.arriving.Arriving.{Arriving}
+use Rattle.drive_scene.specs.declared.event.Arriving.{Arriving}
 use Rattle.drive_scene.specs.declared.event.Arrival.{Arrival}
 use Rattle.drive_scene.specs.declared.event.Event.TheVariants as event
-use Rattle.drive_core.specs.Arriving.{entry_of}
-use Rattle.drive_core.specs.Serving.{IsServedTurn, entries_at_most}
-use Rattle.drive_scene.specs.Turning.{BeginsWith}
+use Rattle.drive_core.specs.Making.{IsTurnOf, entries_at_most}
+use Rattle.drive_scene.specs.Turning.{BeginsWith, entry_of}
 use Rattle.drive_core.proofs.ArrivalTurns.{room_of_four}
 use Rattle.drive_core.proofs.arriving.arrive.Goals as goal
 
@@ -18,9 +17,9 @@ ask-requires-clause-entry_room c = subst (λ (a : Arrival). entries_at_most (eve
 
 pub returns-in_ok-ended-in-Command-clause-moves : goal.returns-in_ok-ended-in-Command-clause-moves
 returns-in_ok-ended-in-Command-clause-moves c s may =
-    let x : Arriving = record { initiator = c.in-Command.initiator; tag = c.in-Command.tag; attribute = c.in-Command.attribute; cdb = c.in-Command.cdb; sent = c.in-Command.sent } in
-    subst (λ (a : Arrival). IsServedTurn s (event.Arrive a) c.args.server.now c.enter.new.server c.enter.new.entries.items
-    (record { label = label.Arrive c.in-Command.initiator; ended = c.in_ok-ended-in-Command.ended })) (sym c.in-Command.is)
+    let x : Arriving = c.in-Command.arriving in
+    subst (λ (a : Arrival). IsTurnOf s (event.Arrive a) c.args.server.now c.enter.new.server c.enter.new.entries.items
+    (record { label = label.Arrive c.in-Command.arriving.initiator; ended = c.in_ok-ended-in-Command.ended })) (sym c.in-Command.is)
     (record {
       label = refl;
       arrival = subst (λ (n : ℕ). BeginsWith (Some (entry_of (n + 1) x)) c.enter.new.entries.items) may.fits.tasks.arrived c.in_ok-ended-in-Command.ensures.arrival;
@@ -29,7 +28,7 @@ returns-in_ok-ended-in-Command-clause-moves c s may =
 
 pub returns-in-Function-clause-moves : goal.returns-in-Function-clause-moves
 returns-in-Function-clause-moves c s may =
-    subst (λ (a : Arrival). IsServedTurn s (event.Arrive a) c.args.server.now c.ask.new.server c.ask.new.entries.items
+    subst (λ (a : Arrival). IsTurnOf s (event.Arrive a) c.args.server.now c.ask.new.server c.ask.new.entries.items
     (record { label = label.Arrive c.in-Function.initiator; ended = None })) (sym c.in-Function.is)
     (record {
       label = refl;

@@ -29,7 +29,7 @@ returns-clause-moves c s fits =
       corrupt = refl;
       scan = refl;
     })
-    c.tell_aborted.new.entries.items
+    c.still_turns_are_good.ensures c.tell_aborted.new.entries.items
     (c.tell_aborted.ensures ∙ (ap (λ (cs : List ℕ). c.push_reserved.new.self.items ++ map Aborted cs) c.as_slice.ensures.value
     ∙ ap (λ (es : List Entry). es ++ map Aborted c.take_out-gone.result.items)
     (c.push_reserved.ensures.items ∙ ap (λ (es : List Entry). es ++ Asked c.args.initiator c.args.what ∷ []) c.requires.empty)))

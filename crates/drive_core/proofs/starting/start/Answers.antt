@@ -84,7 +84,7 @@ returns-in-Reply-clause-moves c s work =
     let known = told-known s c.args.server.now c.args.c c.as_slice.result.now c.tell.new.known work.fits may c.as_slice.ensures.value c.tell.ensures in
     starts_and_ends s c.args.server.now c.conclude.new.server c.args.c
     (start_of s c.args.server.now c.conclude.new.server c.args.c work.fits may left.0.store left.0.arrived (left.0.known ∙ known))
-    c.in-Reply.reply c.conclude.new.entries.items c.conclude.result plan
+    c.still_turns_are_good.ensures c.in-Reply.reply c.conclude.new.entries.items c.conclude.result plan
     (left.0.set ∙ ap (λ (ms : List Member). without ms c.args.c) c.start.ensures) left.0.commands
     (left.1 ∙ ap (λ (es : List Entry). es ++ Ended c.args.c c.in-Reply.reply ∷ [])
     (c.push_reserved.ensures.items ∙ ap (λ (es : List Entry). es ++ Started c.args.c ∷ []) c.requires.empty))
@@ -100,7 +100,7 @@ returns-in-Page-clause-moves c s work =
     starts_and_gives s c.args.server.now c.conclude-in-Page.new.server c.args.c c.in-Page.bytes c.in-Page.reply is
     (begins_to_give s c.args.server.now c.conclude-in-Page.new.server c.args.c c.in-Page.bytes c.in-Page.reply is
     (subst (IsFirst s c.args.c) c.in-Page.is (c.in_ok-first.ensures s work)))
-    c.conclude-in-Page.new.entries.items c.conclude-in-Page.result
+    c.still_turns_are_good.ensures c.conclude-in-Page.new.entries.items c.conclude-in-Page.result
     (left.0.set ∙ ap (λ (ms : List Member). without ms c.args.c) c.start.ensures) left.0.commands
     (left.1 ∙ ap (λ (es : List Entry). es ++ Ended c.args.c c.in-Page.reply ∷ [])
     (c.push_reserved-in-Page.ensures.items ∙ ap (λ (es : List Entry). es ++ Page c.args.c c.in-Page.bytes ∷ [])
@@ -118,7 +118,7 @@ returns-in-Change-clause-moves c s work =
     let known = known_changed s c.args.server.now c.args.c c.in-Change.made c.tell.new.known c.change.new.known c.start.new.self told c.start.ensures c.change.ensures.known in
     starts_and_changes s c.args.server.now c.conclude-in-Change.new.server c.args.c c.in-Change.made
     (changes s c.args.server.now c.conclude-in-Change.new.server c.args.c c.in-Change.made work.fits may begins left.0.store left.0.arrived (left.0.known ∙ known))
-    c.conclude-in-Change.new.entries.items c.conclude-in-Change.result
+    c.still_turns_are_good.ensures c.conclude-in-Change.new.entries.items c.conclude-in-Change.result
     (left.0.set ∙ ap (λ (ms : List Member). without ms c.args.c) c.start.ensures) left.0.commands
     (left.1 ∙ ((λ j. c.change.new.entries.items ++ Ended c.args.c (is_good j) ∷ [])
     ∙ ap (λ (es : List Entry). es ++ Ended c.args.c good ∷ []) (c.change.ensures.entries ∙ ap (λ (es : List Entry). es ++ Mode c.in-Change.made ∷ [])
@@ -143,7 +143,7 @@ returns-in-Work-clause-moves c s work =
       few = retry-known s c.args.server.now.known work.fits.known;
       warned = told-warned s c.args.server.now c.args.c work.fits;
     })
-    (ap (λ (k : Known). k.settings) known ∙ work.fits.known.settings)
+    c.still_turns_are_good.ensures (ap (λ (k : Known). k.settings) known ∙ work.fits.known.settings)
     (sent_on s c.args.server.now c.args.c (request_of c.in-Work.command) c.take_sent-sent.result on (c.take_sent-sent.ensures.sent on.may.a on.may.a_is))
     c.new.ensures.value c.start.ensures
     (both_replaced c.args.server.now.commands.items c.take_sent-sent.new.commands.items c.begin.new.commands.items c.args.c on.may.a c.new.result out

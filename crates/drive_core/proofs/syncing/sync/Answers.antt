@@ -30,6 +30,6 @@ returns-in-None c = record {
       let entries = c.push_reserved.ensures.items ∙ ap (λ es. es ++ Passed c.args.c c.args.from c.args.to ∷ []) c.requires.empty in
       let clean = subst (λ (x : Contents). dirty_within c.args.from c.args.to x ≡ []) c.cached.ensures (c.in-None.ensures.none refl) in
       passes_all s c.args.server.now mid c.conclude.new.server c.args.c c.args.from c.args.to c.conclude.new.entries.items c.answer-reply.result c.conclude.result
-      may c.requires.needs clean refl refl refl refl c.answer-reply.ensures.reply c.answer-reply.ensures.goes
+      c.halves_are_good.ensures c.passes_are_halves.ensures may c.requires.needs clean refl refl refl refl c.answer-reply.ensures.reply c.answer-reply.ensures.goes
       (λ x some. let g = c.conclude.ensures.ends x some in (g.0, g.1 ∙ ap (λ es. es ++ Ended c.args.c x ∷ []) entries, g.2));
 }

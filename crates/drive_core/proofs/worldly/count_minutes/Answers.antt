@@ -20,5 +20,5 @@ returns c =
     c.push_reserved.ensures.items ∙ ap (λ (es : List Entry). es ++ Tick c.args.n ∷ []) c.requires.empty in
     record {
       moves = λ s fits. minutes_pass s d (record { store = d.store; set = d.set; commands = d.commands; arrived = d.arrived; known = made })
-          c.args.n c.push_reserved.new.self.items fits refl refl refl refl known_is told;
+          c.args.n c.push_reserved.new.self.items c.still_turns_are_good.ensures fits refl refl refl refl known_is told;
     }

@@ -10,5 +10,5 @@ pub returns : goal.returns
 returns c = record {
   moves = λ s fits. damaged s c.args.server.now
       (record { store = c.world.new.self; set = c.args.server.now.set; commands = c.args.server.now.commands; arrived = c.args.server.now.arrived; known = c.args.server.now.known })
-      c.args.d fits c.world.ensures.after refl refl refl refl c.world.ensures.keeps c.stands-2.ensures.there c.stands-2.ensures.finds c.stands-2.ensures.may;
+      c.args.d c.damage_turns_are_good.ensures fits c.world.ensures.after refl refl refl refl c.world.ensures.keeps c.stands-2.ensures.there c.stands-2.ensures.finds c.stands-2.ensures.may;
 }

@@ -8,5 +8,5 @@ pub returns-in-Ok : goal.returns-in-Ok
 returns-in-Ok c = record {
   size = c.size_of-size.result;
   measures = c.size_of-size.ensures;
-  is = c.in-Ok.ensures.0 ∙ ap (λ (xs : List Psn). run_at_start c.size_of-size.result xs) c.as_slice.ensures.value;
+  is = c.in-Ok.ensures.0 ∙ ap (λ (xs : List Psn). run_at_start (record { size = c.size_of-size.result; primary = xs })) c.as_slice.ensures.value;
 }

@@ -5,7 +5,7 @@ use Rattle.std.proofs.lemmas.Result.{on_ok_weaker}
 use Rattle.drive_scene.specs.declared.event.Arrival.TheVariants as arrival
 use Rattle.script_text.specs.declared.script.Line.{Line}
 use Rattle.drive_core.specs.Served.{IsServedArrival}
-use Rattle.script_runner.specs.Arrivals.{sends_of, Added}
+use Rattle.script_runner.specs.Arrivals.{sends_of, Added, arriving}
 use Rattle.script_runner.specs.Phasing.{Carried, Happens}
 use Rattle.script_runner.specs.Leading.{TakesLine}
 use Rattle.script_runner.specs.Script.{IsServedLine}
@@ -21,9 +21,9 @@ carry_phase-requires-clause-room c =
 pub returns-in_ok-copy-in-Command : goal.returns-in_ok-copy-in-Command
 returns-in_ok-copy-in-Command c =
     let old = c.args.queues.now in
-    let it = arrival.Command c.in-Command.initiator c.in-Command.tag c.in-Command.attribute c.copy.result c.in_ok-copy-in-Command.field-0 in
+    let it = arrival.Command (arriving c.in-Command.initiator c.in-Command.tag c.in-Command.attribute c.copy.result c.in_ok-copy-in-Command.field-0) in
     let is : line_of it ≡ c.args.line.now = cc (c.copy.ensures, c.in_ok-copy-in-Command.ensures, c.in-Command.is) in
-    let served : IsServedArrival it = subst (IsServedLine c.args.drive.now.size) (sym is) c.requires.served in
+    let served : IsServedArrival it = subst (IsServedLine c.args.drive.now.made.size) (sym is) c.requires.served in
     subst (λ (line : Line). OnOk c.put.result (TakesLine c.args.drive.now c.args.order.now.x (sends_of old) line c.args.drive.now c.args.order.now.x (sends_of c.put.new.self))) is
     (on_ok_weaker c.put.result (λ (added : Added old c.put.new.self c.in-Command.initiator it).
     line_sent c.args.drive.now c.args.order.now.x old c.put.new.self c.in-Command.initiator it c.requires.at_rest (record { sender = refl; served = served }) added) c.put.ensures.ok)

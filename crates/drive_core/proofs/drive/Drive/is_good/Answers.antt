@@ -7,5 +7,5 @@ use Rattle.drive_core.proofs.drive.Drive.is_good.Goals as goal
 
 pub returns-clause-good : goal.returns-clause-good
 returns-clause-good c =
-    subst IsGoodRun c.self.view_is (good_run c.self.inside.server c.self.inside.turns.items c.self.inside.coming c.self.invariant
+    subst IsGoodRun c.self.view_is (good_run c.maps_stay.ensures c.self.inside.made c.self.inside.server c.self.inside.turns.items c.self.inside.coming c.self.invariant
     (subst (λ (p : platter.State). IsTrueLog p.ops) c.platter-platter.ensures c.has_a_true_log.ensures))
