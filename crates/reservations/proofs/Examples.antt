@@ -1,5 +1,5 @@
 -- The table of conflicts whole, and judgements by examples.
-use Rattle.std.proofs.Common.{◌≡◌, ℕ, true, false, List, [], ◌∷◌, ◌++◌, map, filter, replicate, Some, refl}
+use Rattle.std.proofs.Common.{◌≡◌, ℕ, Bool, true, false, List, [], ◌∷◌, ◌++◌, map, filter, replicate, Some, refl}
 use Rattle.std.specs.List.{range_with_len}
 use Rattle.disk_base.specs.declared.command.DataOut.{DataOut}
 use Rattle.disk_base.specs.declared.command.DataOut.TheVariants.{Given, Nothing, Fill}
@@ -24,21 +24,14 @@ types : List ℕ
 types = 1 ∷ 3 ∷ 5 ∷ 6 ∷ []
 
 -- the table: by type, a read and a write of one that isn't registered, and of one that is
-reads-of_strangers : map (λ kind. conflicts 0x28 kind false) types ≡ false ∷ true ∷ false ∷ true ∷ []
-unfolding types
-reads-of_strangers = refl
+row : ℕ → List Bool
+row kind = conflicts 0x28 kind false ∷ conflicts 0x28 kind true ∷ conflicts 0x2A kind false ∷ conflicts 0x2A kind true ∷ []
 
-reads-of_registrants : map (λ kind. conflicts 0x28 kind true) types ≡ false ∷ true ∷ false ∷ false ∷ []
-unfolding types
-reads-of_registrants = refl
-
-writes-of_strangers : map (λ kind. conflicts 0x2A kind false) types ≡ true ∷ true ∷ true ∷ true ∷ []
-unfolding types
-writes-of_strangers = refl
-
-writes-of_registrants : map (λ kind. conflicts 0x2A kind true) types ≡ true ∷ true ∷ false ∷ false ∷ []
-unfolding types
-writes-of_registrants = refl
+the-table : map row types
+    ≡ (false ∷ false ∷ true ∷ true ∷ []) ∷ (true ∷ true ∷ true ∷ true ∷ [])
+    ∷ (false ∷ false ∷ true ∷ false ∷ []) ∷ (true ∷ false ∷ true ∷ false ∷ []) ∷ []
+unfolding types row
+the-table = refl
 
 neither-conflicts : map (λ kind. conflicts 0x00 kind false) types ≡ false ∷ false ∷ false ∷ false ∷ []
 unfolding types

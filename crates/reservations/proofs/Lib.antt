@@ -1,4 +1,5 @@
 pub mod Filling
+pub mod Kept
 pub mod Start
 pub mod Requests
 pub mod Ways

@@ -4,7 +4,6 @@ use Rattle.std.specs.Prelude.{◌&&◌, ◌||◌, slice_index}
 use Rattle.disk_base.specs.declared.command.DataOut.{DataOut}
 use Rattle.reservations.specs.declared.state.Holder.{Holder}
 use Rattle.reservations.specs.declared.state.State.{State}
-use Rattle.reservations.specs.declared.verdict.Rule.TheVariants as rule
 use Rattle.reservations.specs.declared.verdict.Verdict.TheVariants.{Admit}
 use Rattle.reservations.specs.Conflict.{is_reading, is_writing}
 use Rattle.reservations.specs.Desk.{is_exclusive_access, is_for_registrants, is_registered}

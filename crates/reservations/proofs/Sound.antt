@@ -1,5 +1,5 @@
 -- What a desk keeps is kept by each judgement.
-use Rattle.std.proofs.Common.{◌≡◌, ◌≢◌, ◌∙◌, sym, refl, ap, subst, inl, inr, ℕ, zero, suc, ◌+◌, ◌-◌, ◌<◌, ◌==◌, Bool, true, false, not, cond, List, [], ◌∷◌, length, drop, get_or, set, Option, Some, None, IsTrue, arith, get_or-set_other, get_or-set_same}
+use Rattle.std.proofs.Common.{◌≡◌, ◌≢◌, ◌∙◌, sym, refl, ap, subst, inl, inr, ℕ, zero, suc, ◌+◌, ◌-◌, ◌<◌, ◌^◌, ◌==◌, Bool, true, false, not, cond, List, [], ◌∷◌, length, drop, get_or, set, Option, Some, None, IsTrue, arith, get_or-set_other, get_or-set_same}
 use Rattle.std.specs.Prelude.{◌&&◌, ◌⊎◌}
 use Rattle.std.specs.Option.{option_map_or}
 use Rattle.std.proofs.lemmas.Bool.{eqb-true, eq-eqb}
@@ -14,6 +14,7 @@ use Rattle.reservations.specs.Acts.{cleared, dropped, dropped_by, holder_has, ot
 use Rattle.reservations.specs.Desk.{IsDesk, IsInitiator, KnownWait, is_for_registrants, is_registered, is_type, key_of, known_attentions, registrations_preempted, reservations_preempted, reservations_released}
 use Rattle.reservations.specs.Judged.{judged}
 use Rattle.reservations.specs.Verdicts.{Judgement}
+use Rattle.reservations.proofs.Kept.{Keeps, desk-kept, keeps-desk}
 use Rattle.reservations.proofs.Requests.{type-of-request}
 use Rattle.reservations.proofs.Ways.{by-ways}
 
@@ -104,7 +105,7 @@ waiting-dropped P d i true None same ends = same
 waiting-dropped P d i true (Some g) same ends =
     elim (g.initiator == i) as (λ b. P (cond b (dropped d i g.kind) d).waiting) [ true ↦ ends g.kind | false ↦ same ]
 
-sound-told : KnownStayKnown → (d : State) (i : ℕ) → IsDesk d → IsDesk (record d { waiting = set d.waiting (i - 1) (drop 1 (waiting_for d.waiting i)) })
+sound-told : KnownStayKnown → (d : State) (i : ℕ) → Keeps d → Keeps (record d { waiting = set d.waiting (i - 1) (drop 1 (waiting_for d.waiting i)) })
 sound-told law d i s = record {
   eight_keys = s.eight_keys;
   holder_registered = s.holder_registered;
@@ -115,7 +116,7 @@ sound-told law d i s = record {
       (law known_attentions (waiting_for d.waiting i) reservations_preempted refl (s.known_wait i)).1 (everywhere d.waiting s.known_wait) (j - 1);
 }
 
-sound-registered : KnownStayKnown → (d : State) (i key : ℕ) → IsInitiator i → IsDesk d → IsDesk (registered d i key)
+sound-registered : KnownStayKnown → (d : State) (i key : ℕ) → IsInitiator i → Keeps d → Keeps (registered d i key)
 sound-registered law d i key hi s = record {
   eight_keys = length-set d.keys (i - 1) key ∙ s.eight_keys;
   holder_registered = λ h is.
@@ -130,8 +131,8 @@ sound-registered law d i key hi s = record {
       (λ kind. known-dropped law (is_for_registrants kind) (other_registrants d.keys i) d.waiting s.known_wait);
 }
 
-sound-held : (d : State) (i kind : ℕ) → IsInitiator i → IsTrue (is_registered d i) → IsTrue (is_type kind) → IsDesk d
-    → IsDesk (record d { holder = Some (record { initiator = i; kind = kind }) })
+sound-held : (d : State) (i kind : ℕ) → IsInitiator i → IsTrue (is_registered d i) → IsTrue (is_type kind) → Keeps d
+    → Keeps (record d { holder = Some (record { initiator = i; kind = kind }) })
 sound-held d i kind hi own type s =
     let now : Holder = record { initiator = i; kind = kind } in record {
       eight_keys = s.eight_keys;
@@ -142,7 +143,7 @@ sound-held d i kind hi own type s =
       known_wait = s.known_wait;
     }
 
-sound-dropped : KnownStayKnown → (d : State) (i kind : ℕ) → IsDesk d → IsDesk (dropped d i kind)
+sound-dropped : KnownStayKnown → (d : State) (i kind : ℕ) → Keeps d → Keeps (dropped d i kind)
 sound-dropped law d i kind s = record {
   eight_keys = s.eight_keys;
   holder_registered = λ h is. absurd (cc);
@@ -152,7 +153,7 @@ sound-dropped law d i kind s = record {
   known_wait = known-dropped law (is_for_registrants kind) (other_registrants d.keys i) d.waiting s.known_wait;
 }
 
-sound-cleared : KnownStayKnown → (d : State) (i : ℕ) → IsDesk d → IsDesk (cleared d i)
+sound-cleared : KnownStayKnown → (d : State) (i : ℕ) → Keeps d → Keeps (cleared d i)
 sound-cleared law d i s = record {
   eight_keys = refl;
   holder_registered = λ h is. absurd (cc);
@@ -184,7 +185,7 @@ and-false false y h = refl
 own-place : (i : ℕ) (y : Bool) → (not (i - 1 == i - 1) && y) ≡ false
 own-place i y = ap (λ b. not b && y) (eq-eqb (i - 1) (i - 1) refl)
 
-registered-after : (d : State) (i kind n : ℕ) (h : Holder) → IsInitiator i → IsTrue (is_registered d i) → IsDesk d
+registered-after : (d : State) (i kind n : ℕ) (h : Holder) → IsInitiator i → IsTrue (is_registered d i) → Keeps d
     → ((h.initiator ≡ i) × (h.kind ≡ kind)) ⊎ ((d.holder ≡ Some h) × ((key_of d h.initiator == n) ≡ false))
     → IsInitiator h.initiator × IsTrue (not (get_or (taken d.keys (others_with_key d.keys i n)) (h.initiator - 1) 0 == 0))
 registered-after d i kind n h hi own s (inl mine) =
@@ -194,13 +195,13 @@ registered-after d i kind n h hi own s (inr was) =
     let before = s.holder_registered h was.0 in
     (before.0, ap (λ k. not (k == 0)) (not-taken d i n h.initiator before.0 (and-false _ _ was.1)) ∙ before.1)
 
-type-after : (d : State) (i kind n : ℕ) (h : Holder) → IsTrue (is_type kind) → IsDesk d
+type-after : (d : State) (i kind n : ℕ) (h : Holder) → IsTrue (is_type kind) → Keeps d
     → ((h.initiator ≡ i) × (h.kind ≡ kind)) ⊎ ((d.holder ≡ Some h) × ((key_of d h.initiator == n) ≡ false)) → IsTrue (is_type h.kind)
 type-after d i kind n h type s (inl mine) = ap is_type mine.1 ∙ type
 type-after d i kind n h type s (inr was) = s.holder_type h was.0
 
-sound-preempted : KnownStayKnown → (d : State) (i kind n : ℕ) → IsInitiator i → IsTrue (is_registered d i) → IsTrue (is_type kind) → IsDesk d
-    → IsDesk (preempted d i kind n)
+sound-preempted : KnownStayKnown → (d : State) (i kind n : ℕ) → IsInitiator i → IsTrue (is_registered d i) → IsTrue (is_type kind) → Keeps d
+    → Keeps (preempted d i kind n)
 sound-preempted law d i kind n hi own type s = record {
   eight_keys = refl;
   holder_registered = λ h is. registered-after d i kind n h hi own s (holder-of d i kind n (holder_has d n) h refl is);
@@ -211,8 +212,8 @@ sound-preempted law d i kind n hi own type s = record {
 }
 
 -- what a desk keeps stays so
-pub sound-judged : KnownStayKnown → (d : State) (i : ℕ) (cdb : List ℕ) (sent : DataOut) → IsInitiator i → IsDesk d → IsDesk (judged d i cdb sent).desk
-sound-judged law d i cdb sent hi s = by-ways (λ (j : Judgement). IsDesk j.desk) d i cdb sent (record {
+pub sound-judged : KnownStayKnown → (d : State) (i : ℕ) (cdb : List ℕ) (sent : DataOut) → IsInitiator i → Keeps d → Keeps (judged d i cdb sent).desk
+sound-judged law d i cdb sent hi s = by-ways (λ (j : Judgement). Keeps j.desk) d i cdb sent (record {
   told_way = λ a met. sound-told law d i s;
   keys_way = s;
   reservation_way = s;
@@ -228,3 +229,9 @@ sound-judged law d i cdb sent hi s = by-ways (λ (j : Judgement). IsDesk j.desk)
   clear_way = λ own. sound-cleared law d i s;
   preempt_way = λ r is named own. sound-preempted law d i r.kind r.action_key hi own (type-of-request cdb sent r is named) s;
 })
+
+-- with keys that fit it is a desk again
+pub desk-judged : KnownStayKnown → (d : State) (i : ℕ) (cdb : List ℕ) (sent : DataOut) (after : State) → IsInitiator i → IsDesk d
+    → after ≡ (judged d i cdb sent).desk → ((k : ℕ) → k < 8 → get_or after.keys k 0 < 2 ^ 64) → IsDesk after
+desk-judged law d i cdb sent after hi s is fit =
+    desk-kept after (subst (λ (e : State). Keeps e) (sym is) (sound-judged law d i cdb sent hi (keeps-desk d s))) fit

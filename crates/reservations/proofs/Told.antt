@@ -1,9 +1,10 @@
 -- Who is told of a lost key, that an attention is told once, and what is shown.
 use Rattle.std.proofs.Common.{◌≡◌, ◌≢◌, ◌∙◌, sym, refl, ap, subst, inl, inr, ℕ, zero, suc, ◌+◌, ◌-◌, ◌<◌, ◌==◌, Bool, true, false, not, cond, List, [], ◌∷◌, ◌++◌, length, drop, take, get_or, set, Option, Some, None, IsTrue, arith, get_or-set_other, get_or-set_same}
-use Rattle.std.specs.Prelude.{◌&&◌, ◌||◌, slice_get, slice_index}
+use Rattle.std.specs.Prelude.{◌&&◌, ◌||◌, ◌⊎◌, slice_get, slice_index}
 use Rattle.std.specs.Option.{option_map}
 use Rattle.std.proofs.lemmas.Bool.{and_parts, eq-eqb, eqb-true, not-true}
 use Rattle.std.proofs.lemmas.List.FromFn.{get_or-map-range_with_len}
+use Rattle.disk_base.specs.declared.command.DataOut.{DataOut}
 use Rattle.sense_data.specs.declared.attention.Attention.{Attention}
 use Rattle.sense_data.specs.declared.sense.Sense.{Sense}
 use Rattle.sense_data.specs.Attentions.{KnownStayKnown, Waiting, attention_sense, first_of, none_twice, raised_where, same_attention, waiting_for, waits_in, with_attention}
@@ -14,13 +15,14 @@ use Rattle.reservations.specs.declared.verdict.Rule.TheVariants as rule
 use Rattle.reservations.specs.declared.verdict.Verdict.{Verdict}
 use Rattle.reservations.specs.declared.verdict.Verdict.TheVariants.{Admit, Answered}
 use Rattle.reservations.specs.Acts.{cleared, other_registrants, others_with_key, preempted, registered}
-use Rattle.reservations.specs.Desk.{IsDesk, IsInitiator, is_registered, key_of, registrations_preempted, reservations_preempted}
-use Rattle.reservations.specs.Judged.{after_attention, passes_attentions}
+use Rattle.reservations.specs.Desk.{IsInitiator, is_registered, key_of, registrations_preempted, reservations_preempted}
+use Rattle.reservations.specs.Judged.{after_attention, judged, passes_attentions}
 use Rattle.reservations.specs.Laws.{AttentionsAreToldOnce, IsToldOnce, KeyGoesRight, KeysAreShown, KeysAreTheirOwn, ReservationsAreShown}
 use Rattle.std.specs.Int.{w32, to_be_bytes}
 use Rattle.reservations.specs.Pages.{holder_bytes, keys_page, reservation_page}
 use Rattle.reservations.specs.Request.{allocation}
-use Rattle.reservations.specs.Verdicts.{Judgement, done, shown, told}
+use Rattle.reservations.specs.Verdicts.{Judgement, done, told}
+use Rattle.reservations.proofs.Kept.{Keeps}
 use Rattle.reservations.proofs.Reached.{sound-reached}
 use Rattle.reservations.proofs.Sound.{taken-at}
 use Rattle.reservations.proofs.Start.{alike-everywhere}
@@ -76,7 +78,7 @@ key-registered d i j key false hi hj is =
     let places : j - 1 ≢ i - 1 = λ e. let no : (j - 1 == i - 1) ≡ true = eq-eqb (j - 1) (i - 1) e in let yes = apart i j hi hj is in cc in
     inl (get_or-set_other d.keys (i - 1) (j - 1) key 0 places)
 
-key-cleared : (d : State) (i j : ℕ) (b : Bool) → IsInitiator i → IsInitiator j → IsDesk d → IsTrue (is_registered d i) → (key_of d j == 0) ≡ b
+key-cleared : (d : State) (i j : ℕ) (b : Bool) → IsInitiator i → IsInitiator j → Keeps d → IsTrue (is_registered d i) → (key_of d j == 0) ≡ b
     → KeyGoesRight d i (done rule.Clear) (cleared d i) j
 key-cleared d i j true hi hj s own none = inl (alike-everywhere 0 8 (j - 1) ∙ sym (eqb-true (key_of d j) 0 none))
 key-cleared d i j false hi hj s own some =
@@ -94,7 +96,7 @@ key-cleared d i j false hi hj s own some =
           or-first _ _ (raised-at (other_registrants d.keys i) reservations_preempted d.waiting (j - 1) listed mark),
     ))
 
-key-preempted : (d : State) (i j kind n : ℕ) (b : Bool) → IsInitiator j → IsDesk d → IsTrue (is_registered d i)
+key-preempted : (d : State) (i j kind n : ℕ) (b : Bool) → IsInitiator j → Keeps d → IsTrue (is_registered d i)
     → (not (j - 1 == i - 1) && (key_of d j == n)) ≡ b → KeyGoesRight d i (done rule.Preempt) (preempted d i kind n) j
 key-preempted d i j kind n false hj s own test =
     let inside : j - 1 < 8 = omega arith in
@@ -202,47 +204,57 @@ page_of : Verdict → List ℕ
 page_of Admit = []
 page_of (Answered rule reply page) = page.items
 
-page-shown : (v : Verdict) (shown_page page : List ℕ) (r : Rule) → v ≡ shown r shown_page → v ≡ shown r page → page ≡ shown_page
-unfolding page_of
-page-shown v shown_page page r is e = ap page_of (sym e ∙ is)
+rule_of : Verdict → Option Rule
+rule_of Admit = None
+rule_of (Answered r reply page) = Some r
+
+-- the two rules that show something
+is-showing : Option Rule → Bool
+is-showing (Some rule.Keys) = true
+is-showing (Some rule.Reservation) = true
+is-showing other = false
+
+-- which page is shown by a rule, if any is
+ShownBy : State → List ℕ → Option Rule → List ℕ → Type 0
+ShownBy d cdb r page = ((r ≡ Some rule.Keys) × (page ≡ take (allocation cdb) (keys_page d)))
+    ⊎ ((r ≡ Some rule.Reservation) × (page ≡ take (allocation cdb) (reservation_page d)))
+    ⊎ (is-showing r ≡ false)
+
+shown-by : (d : State) (i : ℕ) (cdb : List ℕ) (sent : DataOut) → ShownBy d cdb (rule_of (judged d i cdb sent).verdict) (page_of (judged d i cdb sent).verdict)
+unfolding page_of rule_of is-showing ShownBy
+shown-by d i cdb sent = by-ways (λ (x : Judgement). ShownBy d cdb (rule_of x.verdict) (page_of x.verdict)) d i cdb sent (record {
+  told_way = λ a met. inr (inr refl);
+  keys_way = inl (refl, refl);
+  reservation_way = inr (inl (refl, refl));
+  refused_way = λ a. inr (inr refl);
+  key_way = inr (inr refl);
+  holder_way = λ h held. inr (inr refl);
+  admit_way = λ free. inr (inr refl);
+  register_way = λ r asked. inr (inr refl);
+  reserve_way = λ r asked named own free. inr (inr refl);
+  same_way = inr (inr refl);
+  release_way = inr (inr refl);
+  drop_way = λ h kind held mine. inr (inr refl);
+  clear_way = λ own. inr (inr refl);
+  preempt_way = λ r asked named own. inr (inr refl);
+})
 
 pub keys-are-shown : KeysAreShown
-keys-are-shown d i cdb sent page =
-    by-ways (λ (x : Judgement). x.verdict ≡ shown rule.Keys page → page ≡ take (allocation cdb) (keys_page d)) d i cdb sent (record {
-      told_way = λ a met e. absurd (cc);
-      keys_way = λ e. page-shown (shown rule.Keys (take (allocation cdb) (keys_page d))) (take (allocation cdb) (keys_page d)) page rule.Keys refl e;
-      reservation_way = λ e. absurd (cc);
-      refused_way = λ a e. absurd (cc);
-      key_way = λ e. absurd (cc);
-      holder_way = λ h held e. absurd (cc);
-      admit_way = λ free e. absurd (cc);
-      register_way = λ r asked e. absurd (cc);
-      reserve_way = λ r asked named own free e. absurd (cc);
-      same_way = λ e. absurd (cc);
-      release_way = λ e. absurd (cc);
-      drop_way = λ h kind held mine e. absurd (cc);
-      clear_way = λ own e. absurd (cc);
-      preempt_way = λ r asked named own e. absurd (cc);
-    })
+unfolding page_of rule_of is-showing ShownBy
+keys-are-shown d i cdb sent page e =
+    let P : Verdict → Type 0 = λ v. ShownBy d cdb (rule_of v) (page_of v) in
+    elim (subst P e (shown-by d i cdb sent)) [
+      | inl keys ↦ keys.1
+      | inr (inl reservation) ↦ let other : Some rule.Reservation ≡ Some rule.Keys = sym reservation.0 in absurd (cc)
+      | inr (inr none) ↦ absurd (cc)
+    ]
 
 pub reservations-are-shown : ReservationsAreShown
-reservations-are-shown d h i cdb sent page held =
-    by-ways (λ (x : Judgement). x.verdict ≡ shown rule.Reservation page
-    → page ≡ take (allocation cdb) (to_be_bytes w32 d.generation ++ holder_bytes (Some h) d)) d i cdb sent (record {
-      told_way = λ a met e. absurd (cc);
-      keys_way = λ e. absurd (cc);
-      reservation_way = λ e.
-          page-shown (shown rule.Reservation (take (allocation cdb) (reservation_page d))) (take (allocation cdb) (reservation_page d)) page rule.Reservation refl e
-          ∙ ap (λ (o : Option Holder). take (allocation cdb) (to_be_bytes w32 d.generation ++ holder_bytes o d)) held;
-      refused_way = λ a e. absurd (cc);
-      key_way = λ e. absurd (cc);
-      holder_way = λ k also e. absurd (cc);
-      admit_way = λ free e. absurd (cc);
-      register_way = λ r asked e. absurd (cc);
-      reserve_way = λ r asked named own free e. absurd (cc);
-      same_way = λ e. absurd (cc);
-      release_way = λ e. absurd (cc);
-      drop_way = λ k kind also mine e. absurd (cc);
-      clear_way = λ own e. absurd (cc);
-      preempt_way = λ r asked named own e. absurd (cc);
-    })
+unfolding page_of rule_of is-showing ShownBy
+reservations-are-shown d h i cdb sent page held e =
+    let P : Verdict → Type 0 = λ v. ShownBy d cdb (rule_of v) (page_of v) in
+    elim (subst P e (shown-by d i cdb sent)) [
+      | inl keys ↦ let other : Some rule.Keys ≡ Some rule.Reservation = sym keys.0 in absurd (cc)
+      | inr (inl reservation) ↦ reservation.1 ∙ ap (λ (o : Option Holder). take (allocation cdb) (to_be_bytes w32 d.generation ++ holder_bytes o d)) held
+      | inr (inr none) ↦ absurd (cc)
+    ]

@@ -58,6 +58,7 @@ IsInitiator i = (1 ≤ i) × (i ≤ 8)
 -- what a desk keeps
 pub record IsDesk (d : State) : Type 0 where
   pub eight_keys : length d.keys ≡ 8
+  pub keys_fit : (k : ℕ) → k < 8 → slice_index d.keys k < 2 ^ 64
   pub holder_registered : (h : Holder) → d.holder ≡ Some h → IsInitiator h.initiator × IsTrue (is_registered d h.initiator)
   pub holder_type : (h : Holder) → d.holder ≡ Some h → IsTrue (is_type h.kind)
   pub generation_fits : d.generation < 2 ^ 32

@@ -1,4 +1,4 @@
-ghost use Rattle.std.specs.Prelude.{◌≡◌};
+ghost use Rattle.std.specs.Prelude.{◌≡◌, ℕ, ◌<◌, ◌^◌, slice_index};
 ghost use Rattle.reservations.specs.Desk.{IsDesk, KnownWait, desk_at_start};
 ghost use Rattle.reservations.specs.Judged.{after_attention, attention_met, judged, judged_other, judged_out};
 ghost use Rattle.reservations.specs.Request.{request_of};
@@ -10,7 +10,7 @@ use crate::showing::show;
 use crate::state::{State, place_of};
 use crate::verdict::{Rule, Verdict};
 use disk_base::{Cdb, DataOut, Initiator};
-use sense_data::{Sense, known_stay_known};
+use sense_data::{INITIATORS, Sense, known_stay_known};
 use std::marker::Model;
 
 // Operation codes (SPC-4).
@@ -67,7 +67,18 @@ impl Desk {
         known_stay_known();
         // One of the eight, as the proof has to know.
         let _number = i.number();
-        judge(&mut self.state, i, cdb.bytes(), sent)
+        let verdict = judge(&mut self.state, i, cdb.bytes(), sent);
+        keys_fit(&self.state.keys);
+        verdict
+    }
+}
+
+// Each key is of eight bytes, as the proof has to know of all of them.
+fn keys_fit(keys: &[u64; INITIATORS])
+    ensures { (k : ℕ) → k < 8 → slice_index keys.now k < 2 ^ 64 }
+{
+    for place in 0..INITIATORS {
+        let _key = keys[place];
     }
 }
 
