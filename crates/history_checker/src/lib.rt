@@ -14,6 +14,7 @@ mod walk;
 pub use check::check_turns;
 pub use laws::{
     good_histories_are_legal, good_histories_end_all_commands, good_histories_have_all_lines,
+    good_histories_have_lines_of_the_script, good_histories_leave_lines_by_cuts_alone,
     none_may_follow,
 };
 pub use verdict::{CheckFault, Flaw, Verdict};

@@ -1,4 +1,4 @@
-//! Worked scripts with their reports, honest ones and others. Every text and every answer is written out by hand.
+//! A worked script with its report, and reports that differ from it. Every text and every answer is written out by hand.
 use super::*;
 use report_text::{Summary, read_run, read_summary};
 use script_text::read_script;
@@ -25,30 +25,6 @@ const BEGINNING: &str = "1 arrive 1 > in 1 1 7 S 000000000000 -
 turns 2 commands 1 good 0 check 1 full 0 aborted 0 cut 0 strays 0
 ";
 
-const ONES: &str = "1 arrive 1 > in 1 1 7 S 000000000000 -
-2 work 1 > start 1 > end 1 02 700006000000000A00000000290100000000
-3 arrive 1 > in 2 1 8 S 28000000000000000100 -
-4 work 2 > start 2
-5 work 2 < fetch 16 0 0 < tried 16 0 found > get 2 0 *01 > end 2 00
-turns 5 commands 2 good 1 check 1 full 0 aborted 0 cut 0 strays 0
-";
-
-const ANOTHER_TAG: &str = "1 arrive 1 > in 1 1 7 S 000000000000 -
-2 work 1 > start 1 > end 1 02 700006000000000A00000000290100000000
-3 arrive 1 > in 2 1 9 S 28000000000000000100 -
-4 work 2 > start 2
-5 work 2 < fetch 16 0 0 < tried 16 0 found > get 2 0 *00 > end 2 00
-turns 5 commands 2 good 1 check 1 full 0 aborted 0 cut 0 strays 0
-";
-
-const CUT_IN_WORK: &str = "1 arrive 1 > in 1 1 7 S 000000000000 -
-2 work 1 > start 1 > end 1 02 700006000000000A00000000290100000000
-3 arrive 1 > in 2 1 8 S 28000000000000000100 -
-4 work 2 > start 2 > cut
-5 work 2 < fetch 16 0 0 < tried 16 0 found > get 2 0 *00 > end 2 00
-turns 5 commands 2 good 1 check 1 full 0 aborted 0 cut 0 strays 0
-";
-
 fn judged(alloc: Global, script: &str, report: &str) -> Result<Verdict, Fail> {
     if report.len() > 1_000_000 {
         return Err("a long report".into());
@@ -63,15 +39,23 @@ fn judged(alloc: Global, script: &str, report: &str) -> Result<Verdict, Fail> {
     Ok(check_turns(alloc, &script, turns.as_slice())?)
 }
 
+// The verdict on the whole report, with one text in place of another.
+fn judged_with(alloc: Global, old: &str, new: &str) -> Result<Verdict, Fail> {
+    let report = REPORT.replace(alloc, old, new)?;
+    judged(alloc, SCRIPT, &report)
+}
+
 #[test]
 fn verdicts(rt: HostRuntime) -> Result<(), Fail> {
     let alloc = rt.alloc();
     assert_eq!(rt; judged(alloc, SCRIPT, REPORT)?, Verdict::Yes);
     let no = |turn: u64, why: Flaw| Verdict::No { turn, why };
-    assert_eq!(rt; judged(alloc, SCRIPT, ONES)?, no(5, Flaw::Step));
+    assert_eq!(rt; judged_with(alloc, "*00", "*01")?, no(5, Flaw::Step));
     assert_eq!(rt; judged(alloc, SCRIPT, BEGINNING)?, no(3, Flaw::Left));
-    assert_eq!(rt; judged(alloc, SCRIPT, ANOTHER_TAG)?, no(3, Flaw::Order));
-    assert_eq!(rt; judged(alloc, SCRIPT, CUT_IN_WORK)?, no(4, Flaw::Order));
+    let another_tag = judged_with(alloc, "in 2 1 8 S", "in 2 1 9 S")?;
+    assert_eq!(rt; another_tag, no(3, Flaw::Order));
+    let cut_in_work = judged_with(alloc, "> start 2", "> start 2 > cut")?;
+    assert_eq!(rt; cut_in_work, no(4, Flaw::Order));
     // The script of the first phase alone.
     let first = "cmd 1 7 S 000000000000\ngo\n";
     assert_eq!(rt; judged(alloc, first, BEGINNING)?, Verdict::Yes);
@@ -108,5 +92,7 @@ fn laws_hold() {
     good_histories_are_legal();
     good_histories_end_all_commands();
     good_histories_have_all_lines();
+    good_histories_have_lines_of_the_script();
+    good_histories_leave_lines_by_cuts_alone();
     none_may_follow();
 }
