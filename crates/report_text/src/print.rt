@@ -20,6 +20,7 @@ use text_words::{Out, ToSink};
 /// time, and what the sink doesn't take of them is offered again.
 pub fn print_run<K: Sink>(run: &Run, form: Form, sink: &mut K) -> Printed
     ensures all { result ≡ Printed.All → Appends (K.held sink.old) (K.held sink.new) (report_of form run.now.turns run.now.ops) }
+    ensures no_fault { result ≡ Printed.All → K.faults sink.new ≡ K.faults sink.old }
     ensures fault { result ≡ Printed.Fault → Rises (K.faults sink.old) (K.faults sink.new) }
     ensures front { AppendsFront (K.held sink.old) (K.held sink.new) (report_of form run.now.turns run.now.ops) }
 {

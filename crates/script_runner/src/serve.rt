@@ -38,6 +38,7 @@ pub fn serve_alone<S: Source, K: Sink>(
     ensures read_fault { result ≡ Outcome.ReadFault → Rises (S.faults source.old) (S.faults source.new) }
     ensures no_read_fault { result ≢ Outcome.ReadFault → S.faults source.new ≡ S.faults source.old }
     ensures write_fault { IsWriteFault result → Rises (K.faults sink.old) (K.faults sink.new) }
+    ensures no_write_fault { (run : _) → result ≡ Outcome.Served run → K.faults sink.new ≡ K.faults sink.old }
 
     // Lawful words, a script that is served, and no fault give Served, unless memory runs out.
     ensures complete { IsOk (order_asked (texts_of words.now)) → HasScript (S.left source.old)

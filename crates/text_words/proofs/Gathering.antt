@@ -24,6 +24,7 @@ gathered_more a b m n text piece gathered failed h = record {
   has_sent = h.has_sent;
   faults_stay = h.faults_stay;
   has_rest = λ e. ap (λ t. t ++ piece) (h.has_rest e);
+  no_fault = h.no_fault;
   faults_rise = h.faults_rise;
 }
 
@@ -37,19 +38,21 @@ gathered_lost a b m n text gathered other h = record {
   has_sent = h.has_sent;
   faults_stay = h.faults_stay;
   has_rest = λ e. cc;
+  no_fault = λ e. cc;
   faults_rise = h.faults_rise;
 }
 
 -- the sink took all that was gathered
 pub gathered_taken : (a b c : Option (List ℕ)) (m n o : ℕ) (text gathered : List ℕ)
-    → IsGathered a m text b n gathered false → Appends b c gathered → n ≤ o → IsGathered a m text c o [] false
-gathered_taken a b c m n o text gathered h took stay = record {
+    → IsGathered a m text b n gathered false → Appends b c gathered → o ≡ n → IsGathered a m text c o [] false
+gathered_taken a b c m n o text gathered h took same = record {
   sent = text;
   rest = [];
   whole = append-nil text;
   has_sent = subst (Appends a c) (ap (λ t. h.sent ++ t) (sym (h.has_rest refl)) ∙ h.whole) (Appends-then a b c h.sent gathered h.has_sent took);
-  faults_stay = let old = h.faults_stay in omega arith;
+  faults_stay = let old = h.faults_stay in omega (arith, same);
   has_rest = λ e. refl;
+  no_fault = λ e. same ∙ h.no_fault refl;
   faults_rise = λ e. cc;
 }
 
@@ -65,6 +68,7 @@ gathered_failed a b c m n o text gathered h (k, took) rise stay =
       has_sent = Appends-then a b c h.sent (take k gathered) h.has_sent took;
       faults_stay = omega arith;
       has_rest = λ e. cc;
+      no_fault = λ e. cc;
       faults_rise = λ e. omega (arith, rise);
     }
 

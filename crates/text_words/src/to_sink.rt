@@ -33,6 +33,7 @@ impl<'a, K: Sink> ToSink<'a, K> {
     pub fn finish(&mut self) -> Printed
         ensures same_reference { self.new.sink.ghost_name ≡ self.old.sink.ghost_name }
         ensures all { (start : _) (text : List ℕ) → ⟦<ToSink<'a, K> as Out>⟧.written start text self.old → result ≡ Printed.All → Appends (K.held start.sink.now) (K.held self.new.sink.now) text }
+        ensures no_fault { (start : _) (text : List ℕ) → ⟦<ToSink<'a, K> as Out>⟧.written start text self.old → result ≡ Printed.All → K.faults self.new.sink.now ≡ K.faults start.sink.now }
         ensures fault { (start : _) (text : List ℕ) → ⟦<ToSink<'a, K> as Out>⟧.written start text self.old → result ≡ Printed.Fault → Rises (K.faults start.sink.now) (K.faults self.new.sink.now) }
         ensures front { (start : _) (text : List ℕ) → ⟦<ToSink<'a, K> as Out>⟧.written start text self.old → AppendsFront (K.held start.sink.now) (K.held self.new.sink.now) text }
     {

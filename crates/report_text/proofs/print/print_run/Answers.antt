@@ -9,6 +9,13 @@ returns-clause-all g c all_is =
     let name : c.finish.new.self.sink.ghost_name ≡ c.new-out.result.sink.ghost_name = c.finish.ensures.same_reference ∙ written.0 in
     search rules
 
+pub returns-clause-no_fault : goal.returns-clause-no_fault
+returns-clause-no_fault g c all_is =
+    let written = c.put_report.ensures c.new-out.result [] c.new-out.ensures.fresh in
+    let kept = c.finish.ensures.no_fault c.new-out.result _ written all_is in
+    let name : c.finish.new.self.sink.ghost_name ≡ c.new-out.result.sink.ghost_name = c.finish.ensures.same_reference ∙ written.0 in
+    search rules
+
 pub returns-clause-fault : goal.returns-clause-fault
 returns-clause-fault g c fault_is =
     let written = c.put_report.ensures c.new-out.result [] c.new-out.ensures.fresh in

@@ -14,3 +14,6 @@ returns-else-self-clause-all g c start text before _ =
 
 pub returns-else-self-clause-front : goal.returns-else-self-clause-front
 returns-else-self-clause-front g c start text before = sent_front _ _ _ _ text _ _ (c.offer_gathered.ensures.written start text before).1
+
+pub returns-else-self-clause-no_fault : goal.returns-else-self-clause-no_fault
+returns-else-self-clause-no_fault g c start text before _ = (c.offer_gathered.ensures.written start text before).1.no_fault c.if-self.false
