@@ -12,8 +12,6 @@ mod need;
 mod needs;
 mod owed;
 mod step;
-#[cfg(test)]
-mod tests;
 mod work;
 
 pub use answer::Answer;

@@ -3,7 +3,5 @@
 #![tactic(auto)]
 
 mod reply;
-#[cfg(test)]
-mod tests;
 
 pub use reply::{DefectReply, DefectRequest, PHYSICAL_SECTOR_FORMAT, defect_reply};

@@ -10,8 +10,6 @@ mod items;
 mod memory;
 mod payload;
 mod stage;
-#[cfg(test)]
-mod tests;
 
 pub use address::{Initiator, Lba, Psn, Tag};
 pub use block::{BLOCK_LENGTH, Block, Value};

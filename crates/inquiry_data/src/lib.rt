@@ -7,8 +7,6 @@ mod capacity;
 mod cut;
 mod identity;
 mod luns;
-#[cfg(test)]
-mod tests;
 
 pub use capacity::{CAPACITY_10_LENGTH, CAPACITY_16_LENGTH, capacity_10, capacity_16};
 pub use identity::{INQUIRY_LENGTH_MAX, inquiry};

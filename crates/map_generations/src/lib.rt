@@ -7,8 +7,6 @@ mod reading;
 mod record;
 mod recovery;
 mod safety;
-#[cfg(test)]
-mod tests;
 
 pub use record::{
     COPIES, IN_USE, MAP_RECORDS, RECORD_VERSION, map_record, maps_are_told, records_tell_maps,

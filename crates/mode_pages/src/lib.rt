@@ -9,8 +9,6 @@ mod request;
 mod selecting;
 mod sensing;
 mod settings;
-#[cfg(test)]
-mod tests;
 
 pub use laws::what_is_shown_is_taken_without_a_change;
 pub use request::ModeRequest;

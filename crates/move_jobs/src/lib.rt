@@ -9,8 +9,6 @@ mod job;
 mod laws;
 mod need;
 mod step;
-#[cfg(test)]
-mod tests;
 
 pub use answer::JobAnswer;
 pub use job::Job;

@@ -10,8 +10,6 @@ mod reading;
 mod sink;
 mod source;
 mod steady;
-#[cfg(test)]
-mod tests;
 
 pub use memory::{MemorySink, MemorySource};
 pub use offering::{Printed, offer};

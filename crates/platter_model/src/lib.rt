@@ -11,8 +11,6 @@ mod law;
 mod op;
 mod platter;
 mod sector;
-#[cfg(test)]
-mod tests;
 mod trying;
 mod world;
 

@@ -3,8 +3,6 @@
 #![tactic(auto)]
 
 mod stage;
-#[cfg(test)]
-mod tests;
 mod trying;
 
 pub use stage::{RETRY_MAX, STAGES_MAX, heavy_stages_are_the_last_two, is_heavy, stages};

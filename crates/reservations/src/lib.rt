@@ -10,8 +10,6 @@ mod laws;
 mod request;
 mod showing;
 mod state;
-#[cfg(test)]
-mod tests;
 mod verdict;
 
 pub use desk::Desk;

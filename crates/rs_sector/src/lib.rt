@@ -10,13 +10,9 @@ mod field;
 mod lanes;
 mod law;
 mod locate;
-#[cfg(test)]
-mod second_decoder;
 mod sector;
 mod solve;
 mod tables;
-#[cfg(test)]
-mod tests;
 
 pub use decoders::{nearest, nearest_erased};
 pub use encoder::{are_codewords, encode, encode_sector, is_codeword, syndromes};

@@ -7,8 +7,6 @@ mod finding;
 mod log;
 mod page;
 mod state;
-#[cfg(test)]
-mod tests;
 
 pub use fault::PageFault;
 pub use finding::Finding;

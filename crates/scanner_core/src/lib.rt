@@ -5,8 +5,6 @@
 
 mod finding;
 mod scan;
-#[cfg(test)]
-mod tests;
 
 pub use finding::ScanFinding;
 pub use scan::Scan;

@@ -17,8 +17,6 @@ mod read;
 mod script;
 mod served;
 mod standing;
-#[cfg(test)]
-mod tests;
 mod weight;
 mod why;
 

@@ -9,8 +9,6 @@ pub mod codes;
 mod queue;
 mod reply;
 mod sense;
-#[cfg(test)]
-mod tests;
 
 pub use attention::Attention;
 pub use attentions::{Attentions, INITIATORS, known_stay_known, no_more_wait_than_are_known};

@@ -6,8 +6,6 @@ mod member;
 mod named;
 mod set;
 mod task;
-#[cfg(test)]
-mod tests;
 
 pub use member::{Member, forbids};
 pub use set::{Arrive, Gone, TASKS_MAX, TaskSet, some_command_may_run};

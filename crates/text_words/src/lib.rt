@@ -11,8 +11,6 @@ mod line;
 mod number;
 mod out;
 mod printing;
-#[cfg(test)]
-mod tests;
 mod to_memory;
 mod to_sink;
 

@@ -8,8 +8,6 @@ mod clean;
 mod dirty;
 mod held;
 mod laws;
-#[cfg(test)]
-mod tests;
 
 pub use cache::{Cache, Look, Put};
 pub use clean::CLEAN_BLOCKS;
