@@ -4,8 +4,6 @@
 
 mod law;
 mod reading;
-#[cfg(test)]
-mod tests;
 mod writing;
 
 pub use law::{payloads_have_one_encoding, reading_inverts_writing, zero_samples_read_as_nothing};

@@ -78,7 +78,7 @@ fn hear(path: &mut Path, samples: &[i8; SAMPLES]) -> Heard
     let mut bytes = [0; ENCODED];
     let mut flags = [false; ENCODED];
     let mut words = [0; WORDS];
-    if channel_of_clean(samples, &mut path.levels, &mut words) {
+    if channel_of_clean(samples, &mut words) {
         rll_code::decode_words(&words, &mut bytes, &mut flags);
         return Heard { bytes, flags };
     }

@@ -16,3 +16,4 @@ pub mod LevelNumbers
 pub mod SampleRows
 pub mod Places
 pub mod Spaced
+pub mod CleanWords

@@ -106,14 +106,10 @@ spaced_from words count all apart n k one =
     ]
 
 -- one sample more is the same
-pub same_more : (a b : List ℤ) (k : ℕ) (so_far here : Bool) → Decides so_far ((j : ℕ) → j < k → get_or a j (pos 0) ≡ get_or b j (pos 0)) → Decides here (get_or a k (pos 0) ≡ get_or b k (pos 0))
-    → Decides (so_far && here) ((j : ℕ) → j < k + 1 → get_or a j (pos 0) ≡ get_or b j (pos 0))
-same_more a b k so_far here before now =
-    Decides-like (so_far && here) (λ p. below_more (λ j. get_or a j (pos 0) ≡ get_or b j (pos 0)) k p.0 p.1) (λ f. (λ j h. f j (omega arith), f k (omega arith))) (Decides-and so_far here before now)
-
-pub same_all : (a b : List ℤ) (k : ℕ) (same : Bool) → length a ≤ k → length b ≡ length a → Decides same ((j : ℕ) → j < k → get_or a j (pos 0) ≡ get_or b j (pos 0)) → Decides same (a ≡ b)
-same_all a b k same end long d =
-    Decides-like same (λ f. ext_get_or (pos 0) a b (sym long) (λ j h. f j (omega arith))) (λ e j h. ap (λ l. get_or l j (pos 0)) e) d
+pub same_more : (a : List ℤ) (f : ℕ → ℤ) (k : ℕ) (so_far here : Bool) → Decides so_far ((j : ℕ) → j < k → get_or a j (pos 0) ≡ f j) → Decides here (get_or a k (pos 0) ≡ f k)
+    → Decides (so_far && here) ((j : ℕ) → j < k + 1 → get_or a j (pos 0) ≡ f j)
+same_more a f k so_far here before now =
+    Decides-like (so_far && here) (λ p. below_more (λ j. get_or a j (pos 0) ≡ f j) k p.0 p.1) (λ g. (λ j h. g j (omega arith), g k (omega arith))) (Decides-and so_far here before now)
 
 -- samples that are the clean ones of channel bits with two 0s behind each 1
 pub detected_bits : (samples : List ℤ) (bits : List Bool) → AreSpaced bits → samples ≡ clean_samples (level_word bits) → HaveDetectedBits samples bits

@@ -1,5 +1,5 @@
 -- Levels as bits of a number, a bit 1 for the low one, and the samples by them.
-use Rattle.std.specs.Prelude.{◌≡◌, ℕ, ◌+◌, ◌*◌, ◌%◌, ◌<◌, ◌==◌, List, map, ℤ, pos, ◌-ℤ◌, ◌*ℤ◌}
+use Rattle.std.specs.Prelude.{◌≡◌, ℕ, ◌+◌, ◌*◌, ◌%◌, ◌<◌, ◌==◌, List, map, ℤ, pos, ◌-ℤ◌, ◌*ℤ◌, slice_index_or}
 use Rattle.std.specs.Int.{bit_at}
 use Rattle.std.specs.List.{range_with_len}
 use Rattle.prml_viterbi.specs.Levels.{level_for}
@@ -24,3 +24,7 @@ GiveLevels word before levels = (k : ℕ) → k < 64
 abbrev pub IsApart : ℕ → ℕ → Type 0
 IsApart word before = (k : ℕ) → k < 64 → bit_at word k ≡ 1
     → (bit_at (4 * word + before) (k + 1) ≡ 0) × (bit_at (4 * word + before) k ≡ 0)
+
+-- so many samples are the clean ones of levels of which the first two stand before the first place
+abbrev pub AreSamplesBy : List ℤ → ℕ → ℕ → Type 0
+AreSamplesBy samples levels count = (k : ℕ) → k < count → slice_index_or samples k (pos 0) ≡ sample_by levels k

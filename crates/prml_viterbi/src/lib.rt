@@ -21,6 +21,3 @@ pub use levels::{
 };
 pub use word_samples::samples_of_words;
 pub use word_shortcut::channel_of_clean;
-
-#[cfg(test)]
-mod tests;

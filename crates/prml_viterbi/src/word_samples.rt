@@ -29,7 +29,7 @@ pub fn samples_of_words(words: &[u64], out: &mut [i8])
 
 /// The levels after 64 channel bits, and two levels before them: a bit 1 is the low level.
 #[inline(always)]
-fn levels_after(word: u64, before: u64) -> u64
+pub(crate) fn levels_after(word: u64, before: u64) -> u64
     requires { before < 4 }
     ensures levels { GiveLevels word before result }
     ensures bound { result < 2 ^ 64 }
@@ -76,7 +76,7 @@ fn put_row(places: &mut [i8], levels: u64)
 
 /// The levels of eight places and of the two before them.
 #[inline(always)]
-fn ten_levels(levels: u64, before: u64, i: usize) -> u64
+pub(crate) fn ten_levels(levels: u64, before: u64, i: usize) -> u64
     requires before { before < 4 }
     requires inside { i < 8 }
     ensures value { result ≡ (4 * levels + before) / 2 ^ (8 * i) % 1024 }
@@ -100,7 +100,8 @@ fn put_part(places: &mut [i8], levels: u64, before: u64)
     }
 }
 
-fn sample_in_row(levels: u64, k: usize) -> i8
+#[inline(always)]
+pub(crate) fn sample_in_row(levels: u64, k: usize) -> i8
     requires levels { levels < 1024 }
     requires inside { k < 8 }
     ensures { result ≡ sample_by levels k }

@@ -77,8 +77,21 @@ def word_tables():
     literal("PLACED", "u32", doc, entries)
     tails = [placed(pending, TAIL) for pending in states]
     literal("TAILS", "u32", "The channel bits that the tail completes, in each state, placed likewise.", tails)
-    reversed_bits = [int(f"{byte:08b}"[::-1], 2) for byte in range(256)]
-    literal("REVERSED", "u8", "Each byte with its bits the other way round.", reversed_bits)
+    settled, following = [], []
+    waiting = beginnings(ROWS.values(), 2)
+    for channel in range(256):
+        # The first of the eight channel bits is the lowest. Of sixteen places the last six, which no state has, are as the first.
+        entries, row = [], 0
+        for state, pending in enumerate(waiting):
+            spelled, flagged, then = read(pending, f"{channel:08b}"[::-1])
+            low = "0" * (len(then) // 2)
+            entries.append(int("0" + spelled + low, 2) + (int("0" + flagged + low, 2) << 16))
+            row += waiting.index(then) << 4 * state + 2
+        settled += entries + 6 * entries[:1]
+        following.append(row)
+    doc = "The bits that eight channel bits settle in each state, above a place for each pair that is pending then, and from bit 16 on which are flagged."
+    literal("SETTLED", "u32", doc, settled)
+    literal("FOLLOWING", "u64", "The states after eight channel bits, four bits for each state before them, from bit 2 on.", following)
 
 
 def bit_tables():

@@ -13,7 +13,7 @@ abbrev eight_settled : ℕ → ℕ → Settled
 eight_settled line channel = settle_pairs (waiting_in line) (byte_bits channel)
 
 -- whether bits, flags and a next state are what settling the channel bits gives
-abbrev matches : Settled → ℕ → ℕ × (ℕ × ℕ) → Bool
+abbrev pub matches : Settled → ℕ → ℕ × (ℕ × ℕ) → Bool
 matches s places x =
     nat_eq x.1.1 (state_of s.waits) && (nat_eq (length s.given + places_waiting (state_of s.waits)) (4 + places) && (nat_eq x.0 (spelled (λ b. b.bit) s.given (state_of s.waits)) && nat_eq x.1.0 (spelled (λ b. b.flagged) s.given (state_of s.waits))))
 
@@ -28,9 +28,10 @@ eight_are_pairs : (n : ℕ) → ArePairs (byte_bits n)
 unfolding low_bits
 eight_are_pairs n = tt
 
-passed_settles : (state channel bits flags next : ℕ) → IsState 10 state → passes (state / 256) channel (bits, (flags, next)) ≡ true → Settles state channel bits flags next
-passed_settles state channel bits flags next known passed =
-    let s = eight_settled (state / 256) channel in
+-- a next state that passes is the one that is settled
+pub passed_settles : (state : ℕ) (xs : List Bool) (bits flags next : ℕ) → IsState 10 state → ArePairs xs → matches (settle_pairs (waiting_in (state / 256)) xs) (length (get_or right_beginnings (state / 256) []) / 2) (bits, (flags, next)) ≡ true → Settles state xs bits flags next
+passed_settles state xs bits flags next known pairs passed =
+    let s = settle_pairs (waiting_in (state / 256)) xs in
     let after = state_of s.waits in
     let same_next = nat_eq next after in
     let same_places = nat_eq (length s.given + places_waiting after) (4 + places_waiting state) in
@@ -43,8 +44,8 @@ passed_settles state channel bits flags next known passed =
     record {
       given = s.given;
       reads = λ more.
-          ap (λ w. reading (w ++ (byte_bits channel ++ more))) (sym (waiting-known state known))
-          ∙ pairs_read (waiting_in (state / 256)) (byte_bits channel) more (eight_are_pairs channel)
+          ap (λ w. reading (w ++ (xs ++ more))) (sym (waiting-known state known))
+          ∙ pairs_read (waiting_in (state / 256)) xs more pairs
           ∙ ap (λ w. s.given ++ reading (w ++ more)) (sym (waiting-state s.waits).0 ∙ ap channel_waiting e);
       places = subst (λ n. length s.given + places_waiting n ≡ 4 + places_waiting state) e (eqb-true (length s.given + places_waiting after) (4 + places_waiting state) others.0);
       bits_given = subst (λ n. bits ≡ spelled (λ b. b.bit) s.given n) e (eqb-true bits (spelled (λ b. b.bit) s.given after) both.0);
@@ -52,7 +53,7 @@ passed_settles state channel bits flags next known passed =
       known = subst (IsState 10) e (waiting-state s.waits).1;
     }
 
-settles : (bits flags nexts : List ℕ) → length bits ≡ 2560 → length flags ≡ 2560 → length nexts ≡ 2560 → length (zip flags nexts) ≡ 2560 → length (zip bits (zip flags nexts)) ≡ 2560 → all_from (by_place passes) 0 (zip bits (zip flags nexts)) ≡ true → (state channel : ℕ) → IsState 10 state → channel < 256 → Settles state channel (get_or bits (state + channel) 0) (get_or flags (state + channel) 0) (get_or nexts (state + channel) 0)
+settles : (bits flags nexts : List ℕ) → length bits ≡ 2560 → length flags ≡ 2560 → length nexts ≡ 2560 → length (zip flags nexts) ≡ 2560 → length (zip bits (zip flags nexts)) ≡ 2560 → all_from (by_place passes) 0 (zip bits (zip flags nexts)) ≡ true → (state channel : ℕ) → IsState 10 state → channel < 256 → Settles state (byte_bits channel) (get_or bits (state + channel) 0) (get_or flags (state + channel) 0) (get_or nexts (state + channel) 0)
 settles bits flags nexts long_bits long_flags long_nexts long_pairs long pass state channel known fits =
     let at = state + channel in
     let begins : state / 256 * 256 + channel ≡ at = omega (arith, known.1) in
@@ -60,11 +61,11 @@ settles bits flags nexts long_bits long_flags long_nexts long_pairs long pass st
     let pair = get_or-zip flags nexts at (0, 0) (omega arith) (omega arith) in
     let entry = get_or-zip bits (zip flags nexts) at (0, (0, 0)) (omega arith) (omega arith) in
     let is : get_or (zip bits (zip flags nexts)) at (0, (0, 0)) ≡ (get_or bits at 0, (get_or flags at 0, get_or nexts at 0)) = entry ∙ ap (λ x. (get_or bits at 0, x)) pair in
-    passed_settles state channel (get_or bits at 0) (get_or flags at 0) (get_or nexts at 0) known
+    passed_settles state (byte_bits channel) (get_or bits at 0) (get_or flags at 0) (get_or nexts at 0) known (eight_are_pairs channel)
     (subst (λ x. passes (state / 256) channel x ≡ true) is
     (subst (λ n. passes (state / 256) channel (get_or (zip bits (zip flags nexts)) n (0, (0, 0))) ≡ true) begins
     (state_passes passes (zip bits (zip flags nexts)) pass (state / 256) channel (0, (0, 0)) fits (omega arith))))
 
 -- what the tables hold for a state and eight channel bits
-pub tables_settle : (state channel : ℕ) → IsState 10 state → channel < 256 → Settles state channel (get_or BITS (state + channel) 0) (get_or FLAGS (state + channel) 0) (get_or WAITING (state + channel) 0)
+pub tables_settle : (state channel : ℕ) → IsState 10 state → channel < 256 → Settles state (byte_bits channel) (get_or BITS (state + channel) 0) (get_or FLAGS (state + channel) 0) (get_or WAITING (state + channel) 0)
 tables_settle = settles BITS FLAGS WAITING refl refl refl refl refl tables_pass

@@ -19,3 +19,4 @@ pub mod Writing
 pub mod WordCoding
 pub mod WordTable
 pub mod WordReading
+pub mod WordDecoderTable

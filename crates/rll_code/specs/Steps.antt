@@ -3,7 +3,7 @@ use Rattle.std.specs.Prelude.{◌≡◌, ℕ, ◌+◌, ◌*◌, ◌/◌, ◌%◌
 use Rattle.std.specs.List.{flat_map}
 use Rattle.rll_code.specs.Bits.{bits, byte_bits, low_bits, number}
 use Rattle.rll_code.specs.Code.{Row, left_side, right_side, tail}
-use Rattle.rll_code.specs.Reading.{BitRead, reading}
+use Rattle.rll_code.specs.Reading.{BitRead, reading, byte_of, is_flagged}
 
 -- a state is where its entries begin in the tables, 256 for each of so many states
 abbrev pub IsState : ℕ → ℕ → Type 0
@@ -49,10 +49,27 @@ abbrev pub spelled : (BitRead → Bool) → List BitRead → ℕ → ℕ
 spelled part given state = number (map part given) * 2 ^ places_waiting state
 
 -- the channel bits that wait and eight more give these bits and flags, whatever follows, and channel bits that wait next
-pub record Settles (state channel bits flags next : ℕ) : Type 0 where
+pub record Settles (state : ℕ) (channel : List Bool) (bits flags next : ℕ) : Type 0 where
   pub given : List BitRead
-  pub reads : (more : List Bool) → reading (channel_waiting state ++ (byte_bits channel ++ more)) ≡ given ++ reading (channel_waiting next ++ more)
+  pub reads : (more : List Bool) → reading (channel_waiting state ++ (channel ++ more)) ≡ given ++ reading (channel_waiting next ++ more)
   pub places : length given + places_waiting next ≡ 4 + places_waiting state
   pub bits_given : bits ≡ spelled (λ b. b.bit) given next
   pub flags_given : flags ≡ spelled (λ b. b.flagged) given next
   pub known : IsState 10 next
+
+-- bits read that fill no byte yet, and which of them are flagged, as numbers: the bits that wait in the state fill them up to three
+pub record Keeps (kept : List BitRead) (state bits marks : ℕ) : Type 0 where
+  pub places : length kept + places_waiting state ≡ 3
+  pub bits_kept : bits ≡ spelled (λ b. b.bit) kept state
+  pub marks_kept : marks ≡ spelled (λ b. b.flagged) kept state
+  pub known : IsState 10 state
+
+-- bits that are kept and sixteen channel bits give a byte and whether it is flagged, whatever follows, and bits to keep
+pub record Reads (kept : List BitRead) (state : ℕ) (channel : List Bool) (byte : ℕ) (flagged : Bool) (next bits marks : ℕ) : Type 0 where
+  pub eight : List BitRead
+  pub rest : List BitRead
+  pub long : length eight ≡ 8
+  pub given : (more : List Bool) → kept ++ reading (channel_waiting state ++ (channel ++ more)) ≡ eight ++ (rest ++ reading (channel_waiting next ++ more))
+  pub byte_given : byte ≡ byte_of eight
+  pub flag_given : flagged ≡ is_flagged eight
+  pub keeps : Keeps rest next bits marks

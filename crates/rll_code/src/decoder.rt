@@ -42,17 +42,17 @@ pub fn decode(chan: &[bool], out: &mut [u8], flags: &mut [bool])
 
 /// The bits that eight channel bits settle, which of them are flagged, and the state after them.
 #[derive(Drop)]
-pub(crate) struct Settled {
-    pub(crate) bits: u8,
-    pub(crate) flags: u8,
-    pub(crate) state: u16,
+struct Settled {
+    bits: u8,
+    flags: u8,
+    state: u16,
 }
 
 /// A state is where its entries begin in the tables.
 #[inline(always)]
-pub(crate) fn settle(state: u16, channel: u8) -> Settled
+fn settle(state: u16, channel: u8) -> Settled
     requires { IsState 10 state }
-    ensures { Settles state channel result.bits result.flags result.state }
+    ensures { Settles state (byte_bits channel) result.bits result.flags result.state }
 {
     let at = state as usize + channel as usize;
     Settled {
@@ -81,7 +81,7 @@ fn packed(channel: &[bool]) -> u8
 
 /// The three places that are kept, and behind them the places of two times eight channel bits.
 #[inline(always)]
-pub(crate) fn joined(kept: u32, first: u8, second: u8) -> u32
+fn joined(kept: u32, first: u8, second: u8) -> u32
     requires { kept < 8 }
     ensures { result ≡ kept * 256 + first * 16 + second }
 {

@@ -6,8 +6,6 @@ mod decoder;
 mod encoder;
 pub mod laws;
 mod tables;
-#[cfg(test)]
-mod tests;
 mod word_decoder;
 mod word_encoder;
 mod word_tables;
