@@ -1,5 +1,5 @@
 -- Chains: where they take a block, and that the map's list takes those of free spares.
-use Rattle.std.proofs.Common.{◌≡◌, ◌≢◌, ◌∙◌, ap, sym, refl, ℕ, ◌+◌, ◌<◌, ◌≤◌, true, Bool, cond, List, [], ◌∷◌, ◌++◌, length, get_or, arith, length-append}
+use Rattle.std.proofs.Common.{◌≡◌, ◌≢◌, ◌∙◌, ap, sym, refl, ◌+◌, ◌<◌, ◌≤◌, true, Bool, cond, List, [], ◌∷◌, get_or, arith, length-append}
 use Rattle.std.specs.Prelude.{All}
 use Rattle.std.proofs.lemmas.Bool.{eq-eqb, ne_eqb}
 use Rattle.std.proofs.lemmas.List.Elements.{All-nil, All-cons, All-head, All-tail, All-append, All-weaker}
@@ -9,7 +9,7 @@ use Rattle.disk_base.specs.declared.address.Lba.{Lba}
 use Rattle.geometry_map.specs.declared.size.Size.{Size}
 use Rattle.geometry_map.specs.declared.pair.Pair.{Pair}
 use Rattle.geometry_map.specs.Size.{total_of, capacity_of}
-use Rattle.geometry_map.specs.DefectMap.{DefectMap, IsPrimaryList, IsPair, HaveOwnSpares, place_of, with_pairs, moved, through, slip_place}
+use Rattle.geometry_map.specs.DefectMap.{DefectMap, IsPrimaryList, IsPair, place_of, with_pairs, moved, through, slip_place}
 use Rattle.geometry_map.specs.Slips.{slipped}
 use Rattle.geometry_map.specs.Chains.{IsChain, chain_end, IsNoNew, IsFreeSpare}
 use Rattle.geometry_map.specs.Laws.{ChainsMoveOneBlock, ChainsOfFreeSparesFit}
@@ -19,7 +19,7 @@ use Rattle.geometry_map.proofs.OwnSpares.{AllPairs-append}
 use Rattle.geometry_map.proofs.Places.{in_no_pair-new_of_none, new_of_none-own}
 
 -- a sector is its number
-one_sector : (p q : Psn) → p.0 ≡ q.0 → p ≡ q
+pub one_sector : (p q : Psn) → p.0 ≡ q.0 → p ≡ q
 one_sector p q same = λ i. record { 0 = same i }
 
 -- a pair takes its old sector to its new one

@@ -6,7 +6,7 @@ use Rattle.disk_base.specs.declared.address.Lba.{Lba}
 use Rattle.geometry_map.specs.declared.limits.TheConstants.{PAIRS_MAX}
 use Rattle.geometry_map.specs.declared.size.Size.{Size}
 use Rattle.geometry_map.specs.declared.pair.Pair.{Pair}
-use Rattle.geometry_map.specs.Placer.{gaps_of, remap_of}
+use Rattle.geometry_map.specs.Placer.{gaps_of, remap_of, followed, IsStart}
 use Rattle.geometry_map.specs.Size.{LiesAt}
 use Rattle.geometry_map.specs.ValidMap.{is_valid_map}
 use Rattle.geometry_map.specs.Chains.{IsChain, chain_end, IsFreeSpare, IsNextSpare}
@@ -143,6 +143,27 @@ route_of_a_pair = refl
 -- a chain is one route, and a pair that no block goes through is none
 route_of_a_chain : remap_of (with_pairs new_map (pair 928 930 ∷ chain)) ≡ pair 16 929 ∷ []
 route_of_a_chain = refl
+
+-- the first of two pairs with one old takes the block, a defect begins no route, and routes stand by their starts
+route_of_the_first : remap_of (with_pairs new_map (pair 16 928 ∷ pair 16 929 ∷ [])) ≡ pair 16 928 ∷ []
+route_of_the_first = refl
+
+route_of_a_defect : remap_of (with_pairs one_defect (pair 20 929 ∷ [])) ≡ []
+route_of_a_defect = refl
+
+routes_by_start : remap_of (with_pairs new_map (pair 17 928 ∷ pair 16 929 ∷ [])) ≡ pair 16 929 ∷ pair 17 928 ∷ []
+routes_by_start = refl
+
+-- a pair takes on the route that ends at its old, and no other
+route_taken_on : followed (pair 928 929) (pair 16 928) ≡ pair 16 929
+route_taken_on = refl
+
+route_left : followed (pair 16 929) (pair 16 928) ≡ pair 16 928
+route_left = refl
+
+-- past defect 20 block 4 starts at 21, and none at 20
+start_of_a_block : IsStart one_defect (sector 21)
+start_of_a_block = (record { 0 = 4 }, lit< tt, refl)
 
 -- a primary list may not name a sector twice, nor one of the map, nor one past the drive
 not_twice : AscendsWithin 16 1024 (sector 20 ∷ sector 20 ∷ []) → ⊥

@@ -1,5 +1,5 @@
 -- The gaps count how often a place slips.
-use Rattle.std.proofs.Common.{◌≡◌, ℕ, ◌+◌, ◌-◌, ◌<◌, ◌≤◌, zero, suc, true, false, List, [], ◌∷◌, ◌++◌, length, take, get_or, refl, sym, ◌∙◌, ap, inl, inr, arith, length-take}
+use Rattle.std.proofs.Common.{◌≡◌, ℕ, ◌+◌, ◌-◌, ◌<◌, ◌≤◌, zero, suc, true, false, List, [], ◌∷◌, ◌++◌, length, take, get_or, refl, sym, subst, ◌∙◌, ap, inl, inr, arith, length-take}
 use Rattle.std.proofs.lemmas.List.{take_more}
 use Rattle.std.specs.Prelude.{nat_le, map}
 use Rattle.std.specs.List.{enumerate_from}
@@ -37,6 +37,12 @@ gaps-rise i high (q ∷ qs) up zero (suc k) d before within =
 gaps-rise i high (q ∷ qs) up (suc j) zero d before within = absurd (omega arith)
 gaps-rise i high (q ∷ qs) up (suc j) (suc k) d before within =
     gaps-rise (i + 1) high qs (AscendsWithin-from (16 + (i + 1)) (q.0 + 1) high qs (omega arith) up.2) j k d (omega arith) (omega arith)
+
+-- those of a list
+pub gaps-never-fall : (high : ℕ) (qs : List Psn) (gaps : List ℕ) → AscendsWithin 16 high qs → gaps ≡ gaps_of qs → IsNonDecreasingBy (λ x. x) gaps
+gaps-never-fall high qs gaps up same =
+    let P : List ℕ → Type 0 = IsNonDecreasingBy (λ x. x) in
+    subst P (sym same) (gaps-rise 0 high qs (AscendsWithin-from (16 + 0) 16 high qs (omega arith) up))
 
 -- so they can be halved at any number
 pub gaps-partitioned : (high b : ℕ) (qs : List Psn) → AscendsWithin 16 high qs → IsPartitionedBy (λ g. nat_le g b) (gaps_of qs)

@@ -9,4 +9,7 @@ pub mod Examples
 pub mod GapLemmas
 pub mod RemapLemmas
 pub mod Halving
+pub mod StartLemmas
+pub mod RouteLemmas
+pub mod PlacerLemmas
 pub mod Validity

@@ -18,11 +18,11 @@ HaveDifferentSpares [] = Unit {0}
 HaveDifferentSpares (pair ∷ pairs) = IsNewOfNone pair.new.0 pairs × HaveDifferentSpares pairs
 
 -- a pair takes its old sector to its new one
-moved-at : (at : Psn) (pair : Pair) → (at.0 == pair.old.0) ≡ true → moved at pair ≡ pair.new
+pub moved-at : (at : Psn) (pair : Pair) → (at.0 == pair.old.0) ≡ true → moved at pair ≡ pair.new
 moved-at at pair here = rw here refl
 
 -- and leaves each other one
-moved-off : (at : Psn) (pair : Pair) → (at.0 == pair.old.0) ≡ false → moved at pair ≡ at
+pub moved-off : (at : Psn) (pair : Pair) → (at.0 == pair.old.0) ≡ false → moved at pair ≡ at
 moved-off at pair off = rw off refl
 
 -- pairs take a sector to another only where that is new of one

@@ -25,7 +25,7 @@ pub start-slipped : (m : DefectMap) (b : Lba) → IsValidMap m → b.0 < capacit
 start-slipped m b valid below = slip_place-slipped m.size m.primary b.0 valid.primary below
 
 -- a spare is past every block's start
-start-below_spare : (m : DefectMap) (b : Lba) (p : ℕ) → IsValidMap m → b.0 < capacity_of m.size → is_spare_of m.size m.primary p ≡ true → (slip_place m.size m.primary b).0 < p
+pub start-below_spare : (m : DefectMap) (b : Lba) (p : ℕ) → IsValidMap m → b.0 < capacity_of m.size → is_spare_of m.size m.primary p ≡ true → (slip_place m.size m.primary b).0 < p
 start-below_spare m b p valid below spare =
     let is = spare-kept m.size m.primary p valid.primary spare in
     omega (arith, start-slipped m b valid below, slipped-rises (16 + b.0) (16 + capacity_of m.size) m.primary (omega arith), is.from)

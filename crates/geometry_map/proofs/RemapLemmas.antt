@@ -210,7 +210,7 @@ route-leads m b x valid below is same =
     ] in
     ap (λ (y : Pair). y.new) is.2 ∙ ap (λ (c : ℕ). place_of m (record { 0 = c })) block
 
-not_moved : (x y : ℕ) → not (x == y) ≡ false → x ≡ y
+pub not_moved : (x y : ℕ) → not (x == y) ≡ false → x ≡ y
 not_moved x y e = elim (eqb_tells x y) [ inl w ↦ w.1 | inr w ↦ absurd (true_false (ap not (sym w.0) ∙ e)) ]
 
 -- where no route has a block's start, that is its place

@@ -10,8 +10,6 @@ mod placer;
 mod sectors;
 mod size;
 mod slips;
-#[cfg(test)]
-mod tests;
 
 pub use chains::{
     a_chain_moves_one_block, a_chain_of_free_spares_fits, no_block_is_at_a_free_spare,
