@@ -69,7 +69,7 @@ pub dirty_newest : (s : BlockState) → is_dirty s ≡ true → newest s ≡ Non
 dirty_newest s e h = nonempty_last s.newer e h
 
 -- the block has this value: on the medium alone, or as the newest
-data Holds : BlockState → Value → Type 0 where
+pub data Holds : BlockState → Value → Type 0 where
   clean : {s : BlockState} {v : Value} → s ≡ hardened_with v → Holds s v
   dirty : {s : BlockState} {v : Value} → newest s ≡ Some v → Holds s v
 
@@ -84,7 +84,7 @@ dirty_gives s v d e h =
     ap (λ (t : Bool). cond t (option_map_or (same_value (Data d)) (newest s) false) (list_any (same_value (Data d)) s.base)) (newest_dirty s v e) in
     same_is d v (ap (λ (o : Option Value). option_map_or (same_value (Data d)) o false) (sym e) ∙ sym is ∙ h)
 
-gives : (s : BlockState) (v : Value) (d : List ℕ) → Holds s v → may_get s (Data d) ≡ true → v ≡ Data d
+pub gives : (s : BlockState) (v : Value) (d : List ℕ) → Holds s v → may_get s (Data d) ≡ true → v ≡ Data d
 gives s v d (clean e) h = clean_gives s v d e h
 gives s v d (dirty e) h = dirty_gives s v d e h
 
@@ -113,7 +113,7 @@ harden_holds true s v h (clean e) = let no : false ≡ true = ap is_dirty (sym e
 harden_holds true s v h (dirty e) = clean (ap (λ (o : Option Value). option_map_or hardened_with o s) e)
 
 -- without a cut each entry keeps that the block has the value that was put last
-keeps_holds : (b : ℕ) (s : BlockState) (v : Value) (e : Entry) → block_allows b s e ≡ true → not (is_cut e) ≡ true → Holds s v → Holds (block_after b s e) (newest_after b v e)
+pub keeps_holds : (b : ℕ) (s : BlockState) (v : Value) (e : Entry) → block_allows b s e ≡ true → not (is_cut e) ≡ true → Holds s v → Holds (block_after b s e) (newest_after b v e)
 keeps_holds b s v (Get c a w) h q i = get_holds (nat_eq b a.0) s v w h i
 keeps_holds b s v (Put c a w) h q i = put_holds (nat_eq b a.0) s v (Data w) i
 keeps_holds b s v (GiveUp a) h q i = put_holds (nat_eq b a.0) s v Lost i
@@ -270,7 +270,7 @@ read_clean b s v between after c d h q i =
     (allowed_here b.0 _ (part_here b.0 s between (Get c b (Data d)) after h))
 
 -- the block itself changes at an entry about it
-changed_here : (b : ℕ) (s u : BlockState) → cond (nat_eq b b) u s ≡ u
+pub changed_here : (b : ℕ) (s u : BlockState) → cond (nat_eq b b) u s ≡ u
 changed_here b s u = ap (λ (t : Bool). cond t u s) (eq-eqb b b refl)
 
 pub hardened_values_stay : OfLegalHistories HardenedValuesStay
@@ -291,7 +291,7 @@ hardened_values_stay capacity waiting turns legal before between after who c b d
 IsQuiet : BlockState → Value → Type 0
 IsQuiet s v = is_dirty s ≡ false
 
-got_quiet : (x : Bool) (s : BlockState) (v w : Value) → is_dirty s ≡ false → is_dirty (cond x s (hardened_with w)) ≡ false
+pub got_quiet : (x : Bool) (s : BlockState) (v w : Value) → is_dirty s ≡ false → is_dirty (cond x s (hardened_with w)) ≡ false
 got_quiet true s v w e = e
 got_quiet false s v w e = refl
 
@@ -314,7 +314,7 @@ cuts_quiet : (x : Bool) (s : BlockState) (base : List Value) → is_dirty s ≡ 
 cuts_quiet true s base e = refl
 cuts_quiet false s base e = e
 
-cut_quiet : (s : BlockState) → is_dirty (after_cut s) ≡ false
+pub cut_quiet : (s : BlockState) → is_dirty (after_cut s) ≡ false
 cut_quiet s = cuts_quiet (is_dirty s) s (allowed s) refl
 
 keeps_quiet : (b : ℕ) (s : BlockState) (v : Value) (e : Entry) → block_allows b s e ≡ true → not (renews b e) ≡ true → IsQuiet s v → IsQuiet (block_after b s e) v
@@ -333,7 +333,7 @@ stays_quiet b s entries h q i =
     kept_along (block_after b) (block_allows b) (λ (w : Value) (e : Entry). w) (λ e. not (renews b e)) IsQuiet (keeps_quiet b) s Lost entries h q i
 
 -- what was got of a block that isn't dirty is what it has
-got_clean : (s : BlockState) (d : List ℕ) → is_dirty s ≡ false → after_get s (Data d) ≡ hardened_with (Data d)
+pub got_clean : (s : BlockState) (d : List ℕ) → is_dirty s ≡ false → after_get s (Data d) ≡ hardened_with (Data d)
 got_clean s d e = ap (λ (t : Bool). cond t s (hardened_with (Data d))) e
 
 pub first_read_settles : OfLegalHistories FirstReadSettles

@@ -27,7 +27,7 @@ use Rattle.block_machine.proofs.Alongs.{fold_both}
 use Rattle.block_machine.proofs.Booleans.{and_both, both, neither, none_of, not_is, or_right, true_not_false}
 
 -- a number is among some
-has : ℕ → List ℕ → Bool
+unfoldable pub has : ℕ → List ℕ → Bool
 has c xs = list_any (λ y. y == c) xs
 
 by_cases : (x y : Bool) → (x ≡ true → y ≡ true) → y ≡ false → x ≡ false
@@ -46,7 +46,7 @@ absent c (x ∷ xs) h =
     left_out_one false c x xs now.0 ∙ ap (λ (ys : List ℕ). x ∷ ys) (absent c xs now.1)
 
 -- no number stands twice
-distinct : List ℕ → Bool
+unfoldable pub distinct : List ℕ → Bool
 distinct [] = true
 distinct (x ∷ xs) = not (has x xs) && distinct xs
 
@@ -76,7 +76,7 @@ unfolding has
 has_less_one true c d x xs e h k = ap (λ (ys : List ℕ). has d ys) (left_out_one true c x xs e) ∙ h
 has_less_one false c d x xs e h k = ap (λ (ys : List ℕ). has d ys) (left_out_one false c x xs e) ∙ neither (nat_eq x d) _ (none_of (nat_eq x d) false k).0 h
 
-has_less : (c d : ℕ) (xs : List ℕ) → has d xs ≡ false → has d (left_out c xs) ≡ false
+pub has_less : (c d : ℕ) (xs : List ℕ) → has d xs ≡ false → has d (left_out c xs) ≡ false
 unfolding has
 has_less c d [] h = refl
 has_less c d (x ∷ xs) h = let now = none_of (x == d) _ h in has_less_one (x == c) c d x xs refl (has_less c d xs now.1) (neither (x == d) false now.0 refl)
@@ -94,7 +94,7 @@ distinct_less c (x ∷ xs) d =
     distinct_less_one (x == c) c x xs refl (has_less c x xs (not_is (has x xs) now.0)) (distinct_less c xs now.1)
 
 -- one more
-has_more : (d : ℕ) (xs : List ℕ) (c : ℕ) → has d xs ≡ false → nat_eq c d ≡ false → has d (xs ++ c ∷ []) ≡ false
+pub has_more : (d : ℕ) (xs : List ℕ) (c : ℕ) → has d xs ≡ false → nat_eq c d ≡ false → has d (xs ++ c ∷ []) ≡ false
 unfolding has
 has_more d [] c h e = neither (c == d) false e refl
 has_more d (x ∷ xs) c h e = let now = none_of (x == d) _ h in neither (x == d) _ now.0 (has_more d xs c now.1 e)
@@ -109,7 +109,7 @@ distinct_more (x ∷ xs) c d h =
     and_both (not (has x (xs ++ c ∷ []))) _ (is_not _ (has_more x xs c (not_is (has x xs) now.0) other)) (distinct_more xs c now.1 apart.1)
 
 -- all are at most this
-below : ℕ → List ℕ → Bool
+unfoldable pub below : ℕ → List ℕ → Bool
 below k xs = list_all (λ n. nat_le n k) xs
 
 below_absent : (k c : ℕ) (xs : List ℕ) → k < c → below k xs ≡ true → has c xs ≡ false
@@ -149,7 +149,7 @@ numbers_one : (t : Bool) (c : ℕ) (m : Member) (rest : List Member) → map (λ
 numbers_one true c m rest = refl
 numbers_one false c m rest = refl
 
-numbers_without : (c : ℕ) (set : List Member) → numbers (without set c) ≡ left_out c (numbers set)
+pub numbers_without : (c : ℕ) (set : List Member) → numbers (without set c) ≡ left_out c (numbers set)
 numbers_without c [] = refl
 numbers_without c (m ∷ set) =
     numbers_one (not (m.task.c == c)) c m (without set c)
@@ -159,13 +159,13 @@ started_number : (t : Bool) (m : Member) → (cond t (record m { started = true 
 started_number true m = refl
 started_number false m = refl
 
-numbers_started : (c : ℕ) (set : List Member) → numbers (with_started set c) ≡ numbers set
+pub numbers_started : (c : ℕ) (set : List Member) → numbers (with_started set c) ≡ numbers set
 numbers_started c [] = refl
 numbers_started c (m ∷ set) =
     ap (λ (n : ℕ). n ∷ numbers (with_started set c)) (started_number (m.task.c == c) m)
     ∙ ap (λ (ns : List ℕ). m.task.c ∷ ns) (numbers_started c set)
 
-numbers_append : (set : List Member) (m : Member) → numbers (set ++ m ∷ []) ≡ numbers set ++ m.task.c ∷ []
+pub numbers_append : (set : List Member) (m : Member) → numbers (set ++ m ∷ []) ≡ numbers set ++ m.task.c ∷ []
 numbers_append [] m = refl
 numbers_append (n ∷ set) m = ap (λ (ns : List ℕ). n.task.c ∷ ns) (numbers_append set m)
 
@@ -175,7 +175,7 @@ found_has : (t : Bool) (c : ℕ) (n m : Member) (rest : Option Member) (numbers_
 found_has true c n m rest ns e h f = refl
 found_has false c n m rest ns e h f = f h
 
-member_has : (c : ℕ) (set : List Member) (m : Member) → member_of set c ≡ Some m → has c (numbers set) ≡ true
+pub member_has : (c : ℕ) (set : List Member) (m : Member) → member_of set c ≡ Some m → has c (numbers set) ≡ true
 unfolding has
 member_has c [] m h = absurd (cc)
 member_has c (n ∷ set) m h = found_has (n.task.c == c) c n m (member_of set c) (numbers set) refl h (member_has c set m)
@@ -191,7 +191,7 @@ some_has_one t true x c ns all f h e = refl
 some_has_one false false x c ns all f h e = f h
 some_has_one true false x c ns all f h e = f (ap (λ (b : Bool). b || has x ns) (sym e) ∙ h)
 
-some_has : (p : Member → Bool) (set : List Member) (x : ℕ) → has x (numbers (filter p set)) ≡ true → has x (numbers set) ≡ true
+pub some_has : (p : Member → Bool) (set : List Member) (x : ℕ) → has x (numbers (filter p set)) ≡ true → has x (numbers set) ≡ true
 unfolding has
 some_has p [] x h = h
 some_has p (m ∷ set) x h =
@@ -206,7 +206,7 @@ some_distinct_one false c ns h d = d
 not_has : (x : ℕ) (few all : List ℕ) → (has x few ≡ true → has x all ≡ true) → has x all ≡ false → has x few ≡ false
 not_has x few all f h = by_cases (has x few) (has x all) f h
 
-some_distinct : (p : Member → Bool) (set : List Member) → distinct (numbers set) ≡ true → distinct (numbers (filter p set)) ≡ true
+pub some_distinct : (p : Member → Bool) (set : List Member) → distinct (numbers set) ≡ true → distinct (numbers (filter p set)) ≡ true
 unfolding distinct
 some_distinct p [] d = refl
 some_distinct p (m ∷ set) d =
@@ -215,11 +215,11 @@ some_distinct p (m ∷ set) d =
     ∙ some_distinct_one (p m) m.task.c (numbers (filter p set))
     (not_has m.task.c (numbers (filter p set)) (numbers set) (some_has p set m.task.c) (not_is (has m.task.c (numbers set)) now.0)) (some_distinct p set now.1)
 
-first_has : (x c : ℕ) (cs : List ℕ) → nat_eq c x ≡ true → has x (c ∷ cs) ≡ true
+pub first_has : (x c : ℕ) (cs : List ℕ) → nat_eq c x ≡ true → has x (c ∷ cs) ≡ true
 unfolding has
 first_has x c cs e = ap (λ (b : Bool). b || has x cs) e
 
-later_has : (c x : ℕ) (cs : List ℕ) → has x cs ≡ true → has x (c ∷ cs) ≡ true
+pub later_has : (c x : ℕ) (cs : List ℕ) → has x cs ≡ true → has x (c ∷ cs) ≡ true
 unfolding has
 later_has c x cs h = or_right (c == x) _ h
 
@@ -231,7 +231,7 @@ has_left_one true false c x n xs e f ne h k = ap (λ (ys : List ℕ). has x ys) 
 has_left_one false true c x n xs e f ne h k = ap (λ (ys : List ℕ). has x ys) (left_out_one false c n xs e) ∙ ap (λ (b : Bool). b || has x (left_out c xs)) f
 has_left_one false false c x n xs e f ne h k = ap (λ (ys : List ℕ). has x ys) (left_out_one false c n xs e) ∙ ap (λ (b : Bool). b || has x (left_out c xs)) f ∙ k h
 
-has_left : (c x : ℕ) (xs : List ℕ) → (x ≡ c → ⊥) → has x xs ≡ true → has x (left_out c xs) ≡ true
+pub has_left : (c x : ℕ) (xs : List ℕ) → (x ≡ c → ⊥) → has x xs ≡ true → has x (left_out c xs) ≡ true
 unfolding has
 has_left c x [] ne h = h
 has_left c x (n ∷ xs) ne h = has_left_one (n == c) (n == x) c x n xs refl refl ne h (has_left c x xs ne)
@@ -261,7 +261,7 @@ has_low k c (x ∷ xs) h f =
     low_one (x == c) k c x xs refl (leb-true x k now.0) f (has_low k c xs now.1)
 
 -- one that is left out isn't among the rest
-left_absent : (c : ℕ) (xs : List ℕ) → has c (left_out c xs) ≡ false
+pub left_absent : (c : ℕ) (xs : List ℕ) → has c (left_out c xs) ≡ false
 unfolding has
 left_absent c [] = refl
 left_absent c (x ∷ xs) = left_absent_one (x == c) c x xs refl (left_absent c xs)
@@ -282,14 +282,14 @@ not_gone true c gone inside e apart h = absurd (true_not_false h (apart c e))
 not_gone false c gone inside e apart h = e
 
 -- the commands inside are those of the set, none twice, and all are accounted for; none that is gone is inside or gone twice
-record Good (s : State) (t : Tally) : Type 0 where
-  inside : t.inside ≡ numbers s.set
-  once : distinct t.inside ≡ true
-  low : below s.arrived t.inside ≡ true
-  gone_once : distinct t.gone ≡ true
-  gone_low : below s.arrived t.gone ≡ true
-  apart : (x : ℕ) → has x t.gone ≡ true → has x t.inside ≡ false
-  sum : t.came ≡ t.ended + t.aborted + t.cut + length t.inside
+pub record Good (s : State) (t : Tally) : Type 0 where
+  pub inside : t.inside ≡ numbers s.set
+  pub once : distinct t.inside ≡ true
+  pub low : below s.arrived t.inside ≡ true
+  pub gone_once : distinct t.gone ≡ true
+  pub gone_low : below s.arrived t.gone ≡ true
+  pub apart : (x : ℕ) → has x t.gone ≡ true → has x t.inside ≡ false
+  pub sum : t.came ≡ t.ended + t.aborted + t.cut + length t.inside
 
 same_good : (s u : State) (t : Tally) → numbers u.set ≡ numbers s.set → u.arrived ≡ s.arrived → Good s t → Good u t
 same_good s u t set arrived g = record {
@@ -331,7 +331,7 @@ aborted_good s u t c set arrived here g =
     }
 
 -- a command that owes something is in
-owes_in : (o : Option Member) (s : State) (c : ℕ) (f : Plan → Option Plan) → member_of s.set c ≡ o → is_some (option_and_then f (option_and_then (λ m. (s.duties c).owes) o)) ≡ true → has c (numbers s.set) ≡ true
+pub owes_in : (o : Option Member) (s : State) (c : ℕ) (f : Plan → Option Plan) → member_of s.set c ≡ o → is_some (option_and_then f (option_and_then (λ m. (s.duties c).owes) o)) ≡ true → has c (numbers s.set) ≡ true
 owes_in None s c f e h = absurd (cc)
 owes_in (Some m) s c f e h = member_has c s.set m e
 
@@ -433,7 +433,7 @@ work_good : (capacity : ℕ) (label : Label) (s : State) (entries : List Entry) 
 work_good capacity label s entries t h g =
     good_works capacity label s entries t (both (starts_alone entries) _ (both (starts_alone entries && all_along (entry_after capacity label) (entry_lawful capacity label) s entries) _ h).0).1 g
 
-label_good : (capacity : ℕ) (label : Label) (s : State) (entries : List Entry) (t : Tally) → entries_lawful capacity label s entries ≡ true → Good s t
+pub label_good : (capacity : ℕ) (label : Label) (s : State) (entries : List Entry) (t : Tally) → entries_lawful capacity label s entries ≡ true → Good s t
     → Good (entries_after capacity label s entries) (fold tally_after t entries)
 label_good capacity (Arrive i) s entries t h g = arrival_good capacity i s entries t h g
 label_good capacity (Work c) s entries t h g = work_good capacity (Work c) s entries t h g
@@ -442,7 +442,7 @@ label_good capacity Scan s entries t h g = work_good capacity Scan s entries t h
 label_good capacity Destage s entries t h g = work_good capacity Destage s entries t h g
 label_good capacity (World w) s entries t h g = work_good capacity (World w) s entries t h g
 
-begun_good : (label : Label) (s : State) (t : Tally) → Good s t → Good (begun s label) t
+pub begun_good : (label : Label) (s : State) (t : Tally) → Good s t → Good (begun s label) t
 begun_good (Work c) s t g = same_good s (begun s (Work c)) t refl refl g
 begun_good (Arrive i) s t g = g
 begun_good (Job j) s t g = g

@@ -22,3 +22,7 @@ pub mod SyncLaw
 pub mod Counting
 pub mod Statuses
 pub mod Starts
+pub mod KeptValues
+pub mod PutLaw
+pub mod StageLaw
+pub mod Hardens

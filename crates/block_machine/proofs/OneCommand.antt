@@ -43,7 +43,7 @@ use Rattle.block_machine.proofs.Stepwise.{Step, Begins, Does, step_after, step_o
 use Rattle.block_machine.proofs.Booleans.{and_both, both}
 
 -- each member of this number was started
-abbrev all_started : ℕ → List Member → Bool
+abbrev pub all_started : ℕ → List Member → Bool
 all_started c set = list_all (λ m. not (m.task.c == c) || m.started) set
 
 append_started : (c : ℕ) (set : List Member) (m : Member) → all_started c set ≡ true → nat_eq m.task.c c ≡ false → all_started c (set ++ m ∷ []) ≡ true
@@ -56,7 +56,7 @@ filter_one : (p t : Bool) (c : ℕ) (m : Member) (set : List Member) → (not (m
 filter_one true t c m set h k = and_both (not (m.task.c == c) || m.started) _ h k
 filter_one false t c m set h k = k
 
-filter_started : (c : ℕ) (p : Member → Bool) (set : List Member) → all_started c set ≡ true → all_started c (filter p set) ≡ true
+pub filter_started : (c : ℕ) (p : Member → Bool) (set : List Member) → all_started c set ≡ true → all_started c (filter p set) ≡ true
 filter_started c p [] h = refl
 filter_started c p (m ∷ set) h =
     let now = both (not (m.task.c == c) || m.started) _ h in
@@ -72,7 +72,7 @@ one_started : (t : Bool) (c : ℕ) (m : Member) → (not (m.task.c == c) || m.st
 one_started true c m h = or_true _
 one_started false c m h = h
 
-map_started : (c d : ℕ) (set : List Member) → all_started c set ≡ true → all_started c (map (started_at d) set) ≡ true
+pub map_started : (c d : ℕ) (set : List Member) → all_started c set ≡ true → all_started c (map (started_at d) set) ≡ true
 map_started c d [] h = refl
 map_started c d (m ∷ set) h =
     let now = both (not (m.task.c == c) || m.started) _ h in
@@ -193,7 +193,7 @@ le_self : (n : ℕ) → n ≤ n
 le_self n = omega arith
 
 -- a command that comes isn't this one
-arrived_started : (c : ℕ) (full : Bool) (s : State) (task : Task) → nat_eq task.c c ≡ false → all_started c s.set ≡ true
+pub arrived_started : (c : ℕ) (full : Bool) (s : State) (task : Task) → nat_eq task.c c ≡ false → all_started c s.set ≡ true
     → all_started c (cond full s.set (s.set ++ record { task = task; started = false } ∷ [])) ≡ true
 arrived_started c true s task e h = h
 arrived_started c false s task e h = append_started c s.set (record { task = task; started = false }) h e

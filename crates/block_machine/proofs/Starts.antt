@@ -19,7 +19,7 @@ use Rattle.block_machine.proofs.ReadLaw.{end_owed}
 use Rattle.block_machine.proofs.Booleans.{both, none_of}
 
 -- an entry starts this command
-starts : ℕ → Entry → Bool
+unfoldable pub starts : ℕ → Entry → Bool
 starts c (Started d) = nat_eq c d
 starts c other = false
 
@@ -39,13 +39,13 @@ other_started true d e h k = absurd (cc)
 other_started false d e h k = k
 
 -- a command that owes nothing owes nothing until it starts
-quiet : (capacity c : ℕ) (label : Label) (s : State) (e : Entry) → starts c e ≡ false → (s.duties c).owes ≡ None → (duties_after capacity label s e c).owes ≡ None
+pub quiet : (capacity c : ℕ) (label : Label) (s : State) (e : Entry) → starts c e ≡ false → (s.duties c).owes ≡ None → (duties_after capacity label s e c).owes ≡ None
 unfolding starts
 quiet capacity c label s (Arrived d i t a cdb sent) q h = changed_one (nat_eq c d) _ (s.duties c) (λ e. refl) h
 quiet capacity c label s (Started d) q h = other_started (nat_eq c d) _ (s.duties c) q h
 quiet capacity c label s other q h = done_quiet c s (done_by label s other) h
 
-begun_quiet : (c : ℕ) (label : Label) (s : State) → (s.duties c).owes ≡ None → ((begun s label).duties c).owes ≡ None
+pub begun_quiet : (c : ℕ) (label : Label) (s : State) → (s.duties c).owes ≡ None → ((begun s label).duties c).owes ≡ None
 begun_quiet c (Work d) s h =
     changed_one (nat_eq c d) (record (s.duties d) { dirty_then = s.dirty }) (s.duties c) (λ e. ap (λ (n : ℕ). (s.duties n).owes) (sym (eqb-true c d e)) ∙ h) h
 begun_quiet c (Arrive i) s h = h

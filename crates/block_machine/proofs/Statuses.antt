@@ -23,7 +23,7 @@ use Rattle.cdb_reader.specs.declared.plan.Plan.{Plan}
 use Rattle.cdb_reader.specs.declared.plan.Plan.TheVariants.{Ending, Unread, Answering, Changing, Reading, Writing, Syncing, Moving, Over}
 use Rattle.cdb_reader.specs.declared.plan.Deed.{Deed}
 use Rattle.cdb_reader.specs.declared.plan.Deed.TheVariants as deed
-use Rattle.cdb_reader.specs.Plan.{next, when, reading_from, after_written, after_move, blocks_left, may_end_reading, may_end_writing, may_end_syncing}
+use Rattle.cdb_reader.specs.Plan.{next, when, reading_from, after_written, after_move, blocks_left, may_end}
 use Rattle.cdb_reader.specs.Replies.{good, check_condition, medium_error, unrecovered_read, no_spare, same_reply, is_write_error, is_recovered}
 use Rattle.cdb_reader.specs.Request.{Request}
 use Rattle.cdb_reader.specs.Request as request
@@ -239,7 +239,7 @@ spare_status (block ∷ blocks) reply h =
     either (same_reply reply (no_spare block.0)) (list_any (λ block. same_reply reply (no_spare block.0)) blocks) (is_status reply.status) h
     (λ k. same_status reply (no_spare block.0) k refl) (λ k. spare_status blocks reply k)
 
-reading_status : (r : reading.Reading) (reply : Reply) (dirty : Bool) → may_end_reading r reply dirty ≡ true → is_status reply.status ≡ true
+reading_status : (r : reading.Reading) (reply : Reply) (dirty : Bool) → may_end (Reading r) dirty reply ≡ true → is_status reply.status ≡ true
 reading_status r reply dirty h =
     either (r.at == r.end && (same_reply reply good || r.reports && is_recovered reply)) (nat_lt r.at r.end && r.through && dirty && is_write_error r.at reply)
     (is_status reply.status) h
@@ -247,15 +247,15 @@ reading_status r reply dirty h =
     (λ m. same_status reply good m refl) (λ m. recovered_status reply (both r.reports _ m).1))
     (λ k. write_error_status r.at reply (both (nat_lt r.at r.end && r.through && dirty) _ k).1)
 
-writing_status : (w : writing.Writing) (reply : Reply) → may_end_writing w reply ≡ true → is_status reply.status ≡ true
-writing_status w reply h =
+writing_status : (w : writing.Writing) (reply : Reply) (dirty : Bool) → may_end (Writing w) dirty reply ≡ true → is_status reply.status ≡ true
+writing_status w reply dirty h =
     either (w.at == w.end && same_reply reply good) (nat_lt w.at w.end && is_write_error w.at reply) (is_status reply.status) (both _ _ h).1
     (λ k. same_status reply good (both (w.at == w.end) _ k).1 refl) (λ k. write_error_status w.at reply (both (nat_lt w.at w.end) _ k).1)
 
-syncing_status : (at end : ℕ) (reply : Reply) (dirty : Bool) → may_end_syncing at end reply dirty ≡ true → is_status reply.status ≡ true
-syncing_status at end reply dirty h =
-    either (at == end && same_reply reply good) (nat_lt at end && dirty && is_write_error at reply) (is_status reply.status) h
-    (λ k. same_status reply good (both (at == end) _ k).1 refl) (λ k. write_error_status at reply (both (nat_lt at end && dirty) _ k).1)
+syncing_status : (y : syncing.Syncing) (reply : Reply) (dirty : Bool) → may_end (Syncing y) dirty reply ≡ true → is_status reply.status ≡ true
+syncing_status y reply dirty h =
+    either (y.at == y.end && same_reply reply good) (nat_lt y.at y.end && dirty && is_write_error y.at reply) (is_status reply.status) h
+    (λ k. same_status reply good (both (y.at == y.end) _ k).1 refl) (λ k. write_error_status y.at reply (both (nat_lt y.at y.end && dirty) _ k).1)
 
 moving_status : (m : moving.Moving) (reply : Reply) → (same_reply reply good || list_any (λ block. same_reply reply (no_spare block.0)) (blocks_left m)) ≡ true
     → is_status reply.status ≡ true
@@ -268,8 +268,8 @@ owed_status : (plan after : Plan) (reply : Reply) (dirty : Bool) → next plan (
 owed_status (Ending x) after reply dirty h f = same_status reply x (when_is _ _ _ h).0 f
 owed_status (Unread b) after reply dirty h f = same_status reply (unrecovered_read b) (when_is _ _ _ h).0 refl
 owed_status (Reading r) after reply dirty h f = reading_status r reply dirty (when_is _ _ _ h).0
-owed_status (Writing w) after reply dirty h f = writing_status w reply (when_is _ _ _ h).0
-owed_status (Syncing s) after reply dirty h f = syncing_status s.at s.end reply dirty (when_is _ _ _ h).0
+owed_status (Writing w) after reply dirty h f = writing_status w reply dirty (when_is _ _ _ h).0
+owed_status (Syncing y) after reply dirty h f = syncing_status y reply dirty (when_is _ _ _ h).0
 owed_status (Moving m) after reply dirty h f = moving_status m reply (when_is _ _ _ h).0
 owed_status (Answering bytes x) after reply dirty h f = absurd (cc)
 owed_status Changing after reply dirty h f = absurd (cc)

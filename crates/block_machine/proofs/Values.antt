@@ -15,7 +15,7 @@ use Rattle.block_machine.proofs.BlockLaws.{last_of, same_is, dirty_newest, block
 use Rattle.block_machine.proofs.Booleans.{or_assoc, or_false, or_left, or_right}
 
 -- these data are among some values
-abbrev among : List ℕ → List Value → Bool
+abbrev pub among : List ℕ → List Value → Bool
 among d values = list_any (same_value (Data d)) values
 
 among_both : (d : List ℕ) (xs ys : List Value) → among d (xs ++ ys) ≡ (among d xs || among d ys)
@@ -31,15 +31,15 @@ third false false true false h k = refl
 third false false false w h k = absurd (cc)
 
 -- each value of the block is among those that it may have, and the newest is the last of these
-record Within (s : BlockState) (values : List Value) : Type 0 where
-  each : (d : List ℕ) → among d (s.base ++ s.newer) ≡ true → among d values ≡ true
-  last : (v : Value) → newest s ≡ Some v → slice_get values (length values - 1) ≡ Some v
+pub record Within (s : BlockState) (values : List Value) : Type 0 where
+  pub each : (d : List ℕ) → among d (s.base ++ s.newer) ≡ true → among d values ≡ true
+  pub last : (v : Value) → newest s ≡ Some v → slice_get values (length values - 1) ≡ Some v
 
 only_data : (f d : List ℕ) → among f (Data d ∷ []) ≡ true → f ≡ d
 only_data f d h = let same : Data d ≡ Data f = same_is f (Data d) (or_false (same_value (Data f) (Data d)) h) in cc
 
 -- a block with one value on the medium
-hardened_within : (v : Value) (values : List Value) → ((d : List ℕ) → among d (v ∷ []) ≡ true → among d values ≡ true) → Within (hardened_with v) values
+pub hardened_within : (v : Value) (values : List Value) → ((d : List ℕ) → among d (v ∷ []) ≡ true → among d values ≡ true) → Within (hardened_with v) values
 hardened_within v values h = record { each = h; last = λ w e. absurd (cc) }
 
 -- values with one more behind
@@ -105,7 +105,7 @@ cut_within true s values e i = record {
 }
 
 -- each entry keeps that the values of the block are among those
-keeps_within : (b : ℕ) (s : BlockState) (values : List Value) (e : Entry) → block_allows b s e ≡ true → true ≡ true → Within s values → Within (block_after b s e) (values_after b values e)
+pub keeps_within : (b : ℕ) (s : BlockState) (values : List Value) (e : Entry) → block_allows b s e ≡ true → true ≡ true → Within s values → Within (block_after b s e) (values_after b values e)
 keeps_within b s values (Get c a w) h q i = get_if (nat_eq b a.0) s values w h i
 keeps_within b s values (Put c a w) h q i = put_if (nat_eq b a.0) s values (Data w) i
 keeps_within b s values (GiveUp a) h q i = put_if (nat_eq b a.0) s values Lost i
@@ -125,7 +125,7 @@ dirty_found None s d e h = absurd (cc)
 dirty_found (Some v) s d e h = found d v s.newer (length s.newer - 1) e h
 
 -- what a block gives is among its values
-given_found : (x : Bool) (s : BlockState) (d : List ℕ) → is_dirty s ≡ x → may_get s (Data d) ≡ true → among d (s.base ++ s.newer) ≡ true
+pub given_found : (x : Bool) (s : BlockState) (d : List ℕ) → is_dirty s ≡ x → may_get s (Data d) ≡ true → among d (s.base ++ s.newer) ≡ true
 given_found true s d e h =
     let is : may_get s (Data d) ≡ option_map_or (same_value (Data d)) (newest s) false =
     ap (λ (t : Bool). cond t (option_map_or (same_value (Data d)) (newest s) false) (among d s.base)) e in

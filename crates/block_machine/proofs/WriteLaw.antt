@@ -250,7 +250,7 @@ asks_to_force (Ok (request.WriteAndVerify from count)) capacity s i sent b n g h
 asks_to_force asks capacity s i sent b n g h is = absurd h
 
 -- a write that ends with success is at its end
-writing_over : (t : Bool) (w : writing.Writing) (reply : Reply) → (w.at == w.end && same_reply reply good) ≡ t → (t || (nat_lt w.at w.end && is_write_error w.at reply)) ≡ true
+pub writing_over : (t : Bool) (w : writing.Writing) (reply : Reply) → (w.at == w.end && same_reply reply good) ≡ t → (t || (nat_lt w.at w.end && is_write_error w.at reply)) ≡ true
     → succeeds reply ≡ true → w.at ≡ w.end
 writing_over true w reply e h k = eqb-true w.at w.end (both (w.at == w.end) _ e).0
 writing_over false w reply e h k = absurd (write_error_fails w.at reply (both (nat_lt w.at w.end) _ h).1 k)

@@ -22,23 +22,24 @@ pub record Done : Type 0 where
   pub c : ℕ
   pub what : Deed
 
+-- the command of this number did this
 abbrev pub done : ℕ → Deed → Option Done
 done c what = Some (record { c = c; what = what })
 
--- so many dirty blocks besides the one that is put send a write to the medium
+-- a put is to go on to the medium where so many other blocks are dirty
 abbrev pub dirty_at_most : ℕ
 dirty_at_most = 64
 
--- when the command's last turn of work began, so many other blocks were dirty
+-- so many blocks besides this one were dirty when the command's last turn of work began
 abbrev pub is_crowded : State → ℕ → ℕ → Bool
 is_crowded s c b = nat_le dirty_at_most (length (without_address b (s.duties c).dirty_then))
 
--- the block that sense data name is dirty
+-- the block that a reply's sense data name is dirty
 abbrev pub names_dirty : State → Reply → Bool
 names_dirty s reply =
     option_map_or (λ b. is_dirty (s.blocks b)) (option_and_then (λ sense. sense.information) reply.sense) false
 
--- data that a command gives; of READ DEFECT DATA the heading, where the rest has the form
+-- what data are for the plan of their command: themselves; of READ DEFECT DATA their heading, where the rest has its form
 abbrev pub page_done : Result Request Sense → ℕ → List ℕ → Option Done
 page_done (Ok (ReadDefectData primary grown format allocation)) c bytes =
     if has_defect_length allocation bytes then done c (deed.Page (take 2 bytes)) else None
@@ -55,6 +56,6 @@ done_by label s (Ended c reply) = done c (deed.Ended reply (names_dirty s reply)
 done_by (Work c) s (Mode settings) = done c deed.Mode
 done_by label s other = None
 
--- what the command still owes after that, where it may come
+-- what the command still owes after that; nothing stands for a deed that its plan doesn't allow
 abbrev pub owed_after : State → Done → Option Plan
 owed_after s d = option_and_then (λ plan. next plan d.what) (owed_by s d.c)

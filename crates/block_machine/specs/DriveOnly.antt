@@ -16,14 +16,14 @@ has_defect_length allocation bytes =
     if nat_lt (length bytes) 4 then length bytes == allocation else
     (two_bytes bytes 2 % 8 == 0 && length bytes == min allocation (4 + two_bytes bytes 2))
 
--- which stage found a block, and whether it was moved then: RECOVERED DATA WITH RETRIES, .. WITH POSITIVE HEAD OFFSET,
--- .. WITH NEGATIVE HEAD OFFSET, RECOVERED DATA WITH ERROR CORRECTION AND RETRIES APPLIED, .. DATA AUTO-REALLOCATED,
--- .. RECOMMEND REASSIGNMENT (SPC-4, additional sense codes)
+-- the additional sense codes of a block that was recovered, by the stage that found it and by whether it was moved then:
+-- RECOVERED DATA WITH RETRIES, .. WITH POSITIVE HEAD OFFSET, .. WITH NEGATIVE HEAD OFFSET, RECOVERED DATA WITH ERROR
+-- CORRECTION AND RETRIES APPLIED, .. DATA AUTO-REALLOCATED, .. RECOMMEND REASSIGNMENT (SPC-4, additional sense codes)
 abbrev pub is_recovery_code : ℕ → ℕ → Bool
 is_recovery_code asc ascq =
     (asc == 0x17 && (ascq == 0x01 || ascq == 0x02 || ascq == 0x03)) || (asc == 0x18 && (ascq == 0x01 || ascq == 0x02 || ascq == 0x05))
 
--- RECOVERED ERROR at a block of a range
+-- sense data tell RECOVERED ERROR at a block of a range, by one of these codes
 abbrev pub tells_recovery : ℕ → ℕ → Sense → Bool
 tells_recovery from end sense =
     sense.key == 1 && sense.specific == 0 && is_recovery_code sense.asc sense.ascq

@@ -23,12 +23,12 @@ use Rattle.block_machine.specs.Settings.{same_settings, settings_made}
 use Rattle.block_machine.specs.State.{State, Duty, owed_by}
 use Rattle.block_machine.specs.Deeds.{done_by, owed_after}
 
--- a turn of work on this command
+-- the turn is one of work on this command
 abbrev pub works_on : Label → ℕ → Bool
 works_on (Work d) c = d == c
 works_on other c = false
 
--- the same, or a turn of a move; which command opened it a history doesn't tell
+-- the turn is one of work on this command, or on a move; which command opened that a history doesn't tell
 abbrev pub may_write_for : Label → ℕ → Bool
 may_write_for (Job j) c = true
 may_write_for label c = works_on label c
@@ -37,11 +37,11 @@ may_write_for label c = works_on label c
 abbrev pub may_start : State → ℕ → Bool
 may_start s c = option_map_or (λ m. not m.started && is_none (first_forbidding s.set m.task)) (member_of s.set c) false
 
--- the entry is what its command owes
+-- the entry is what its command's plan allows next
 abbrev pub is_owed : Label → State → Entry → Bool
 is_owed label s e = is_some (option_and_then (owed_after s) (done_by label s e))
 
--- the blocks that a command may have recovered
+-- sense data tell of a recovered block among those that the command reads or verifies
 abbrev pub recovery_within : Result Request Sense → Sense → Bool
 recovery_within (Ok (Read from count fua)) sense = tells_recovery from (from + count) sense
 recovery_within (Ok (Verify from count)) sense = tells_recovery from (from + count) sense
@@ -53,11 +53,12 @@ abbrev pub ends_as_told : Option Plan → Duty → Reply → Bool
 ends_as_told (Some (Reading r)) duty reply = not (is_recovered reply) || option_map_or (recovery_within duty.asks) reply.sense false
 ends_as_told other duty reply = true
 
--- the mode values are those that a MODE SELECT makes
+-- a MODE SELECT is in order, and these are the mode values that it makes
 abbrev pub makes : Result Settings Sense → Settings → Bool
 makes (Ok made) settings = same_settings made settings
 makes (Err sense) settings = false
 
+-- the command is a MODE SELECT that makes these mode values of those that hold
 abbrev pub are_asked : ℕ → State → Duty → Result Request Sense → Settings → Bool
 are_asked capacity s duty (Ok (ModeSelect ten count)) settings = makes (settings_made capacity s.settings ten count duty.sent) settings
 are_asked capacity s duty other settings = false
@@ -67,13 +68,13 @@ abbrev pub mode_lawful : ℕ → Label → State → Settings → Bool
 mode_lawful capacity (Work c) s settings = are_asked capacity s (s.duties c) (s.duties c).asks settings
 mode_lawful capacity other s settings = false
 
--- no format is cut off yet
+-- the map was read at power on, or it is corrupt; no format is cut off yet
 abbrev pub outcome_lawful : Recovered → Bool
 outcome_lawful (Ready number) = true
 outcome_lawful (Corrupt slot) = true
 outcome_lawful (Formatting number) = false
 
--- whether an entry may come in a turn that isn't an arrival
+-- whether an entry may come, as far as commands go, in a turn that isn't an arrival
 abbrev pub entry_lawful : ℕ → Label → State → Entry → Bool
 entry_lawful capacity label s (Started c) = works_on label c && may_start s c
 entry_lawful capacity label s (Get c b v) = works_on label c && is_owed label s (Get c b v)

@@ -153,6 +153,7 @@ pub data Mark : Type 0 where
   Forced : (b : ℕ) → Mark
   Found : (from to : ℕ) → Mark
 
+-- what a command did on the medium, after an entry
 abbrev pub marks_after : ℕ → List Mark → Entry → List Mark
 marks_after c marks (Put d b v) = if c == d then marks ++ Wrote b.0 v ∷ [] else marks
 marks_after c marks (Harden (Command d) b) = if c == d then marks ++ Forced b.0 ∷ [] else marks
@@ -168,6 +169,7 @@ abbrev pub written_through : ℕ → DataOut → ℕ → List Mark
 written_through b sent zero = []
 written_through b sent (suc k) = written_through b sent k ++ Wrote (b + k) (block_of sent k) ∷ Forced (b + k) ∷ []
 
+-- a mark says that a block was hardened
 abbrev pub is_forced : Mark → Bool
 is_forced (Forced b) = true
 is_forced other = false
@@ -229,9 +231,11 @@ pub record Tally : Type 0 where
   pub aborted : ℕ
   pub cut : ℕ
 
+-- before the first entry no command came
 abbrev pub tally_at_start : Tally
 tally_at_start = record { inside = []; gone = []; came = 0; ended = 0; aborted = 0; cut = 0 }
 
+-- what has become of commands, after an entry
 abbrev pub tally_after : Tally → Entry → Tally
 tally_after t (Arrived c i tag a cdb sent) = record t { inside = t.inside ++ c ∷ []; came = t.came + 1 }
 tally_after t (Ended c reply) = record t { inside = left_out c t.inside; gone = t.gone ++ c ∷ []; ended = t.ended + 1 }
@@ -239,6 +243,7 @@ tally_after t (Aborted c) = record t { inside = left_out c t.inside; gone = t.go
 tally_after t Cut = record t { inside = []; cut = t.cut + length t.inside }
 tally_after t other = t
 
+-- what has become of commands, after entries
 abbrev pub tally_of : List Entry → Tally
 tally_of entries = fold tally_after tally_at_start entries
 

@@ -11,3 +11,6 @@ pub mod Entries
 pub mod Turns
 pub mod History
 pub mod Laws
+pub mod KeptValues
+pub mod Lives
+pub mod Stages

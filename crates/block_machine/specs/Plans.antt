@@ -23,7 +23,7 @@ use Rattle.block_machine.specs.Settings.{same_settings, settings_made}
 use Rattle.block_machine.specs.DriveOnly.{defect_heading}
 use Rattle.block_machine.specs.State.{State, Duty}
 
--- commands that need the medium (SBC-3)
+-- the commands that need the medium (SBC-3)
 abbrev pub is_medium : Request → Bool
 is_medium TestUnitReady = true
 is_medium (ReassignBlocks blocks) = true
@@ -35,26 +35,27 @@ is_medium (SynchronizeCache from count) = true
 is_medium (ReadDefectData primary grown format allocation) = true
 is_medium other = false
 
--- CHECK CONDITION with this sense data, alone
+-- to end with CHECK CONDITION and this sense data is all that is owed
 abbrev pub refusing : Sense → Plan
 refusing sense = Ending (check_condition sense)
 
--- these bytes as far as the allocation length goes; where there are none, INVALID FIELD IN CDB
+-- these bytes are owed, as far as the allocation length goes, and GOOD; or INVALID FIELD IN CDB where there are none
 abbrev pub answering : ℕ → Option (List ℕ) → Plan
 answering allocation None = refusing (sense_of 5 0x24 0x00)
 answering allocation (Some bytes) = Answering (take allocation bytes) good
 
--- these bytes, or the refusal
+-- these bytes are owed, and GOOD; or the refusal
 abbrev pub answering_sensed : Result (List ℕ) Sense → Plan
 answering_sensed (Ok bytes) = Answering bytes good
 answering_sensed (Err sense) = refusing sense
 
--- new mode values, where they differ from those that hold
+-- new mode values are owed where they differ from those that hold, else GOOD alone; or the refusal
 abbrev pub changing : Settings → Result Settings Sense → Plan
 changing settings (Ok made) = if same_settings settings made then Ending good else Changing
 changing settings (Err sense) = refusing sense
 
--- another defect list format than the one asked for: DEFECT LIST NOT FOUND (SBC-3, READ DEFECT DATA (10) command)
+-- how READ DEFECT DATA ends behind its data: GOOD, or DEFECT LIST NOT FOUND where another format was asked for than the one
+-- that is given (SBC-3, READ DEFECT DATA (10) command)
 abbrev pub defect_reply : ℕ → Reply
 defect_reply format = if format == 5 then good else check_condition (sense_of 1 0x1C 0x00)
 
@@ -62,7 +63,8 @@ defect_reply format = if format == 5 then good else check_condition (sense_of 1 
 abbrev pub sense_shown : State → ℕ → Sense
 sense_shown s i = unwrap_or (first_of s.waiting i) (sense_of 0 0x00 0x00)
 
--- what a request of an initiator with its data asks for
+-- what an initiator's request owes with its data: pages, sense data or mode values as they are at this moment, or work on
+-- blocks
 abbrev pub plan_asked : ℕ → State → ℕ → DataOut → Request → Plan
 plan_asked capacity s i sent (RequestSense allocation) = answering allocation (Some (sense_bytes (sense_shown s i)))
 plan_asked capacity s i sent (Inquiry evpd page allocation) = answering allocation (inquiry_data evpd page)
@@ -78,18 +80,18 @@ plan_asked capacity s i sent (ReadCapacity16 allocation) = answering allocation 
 plan_asked capacity s i sent (ReportLuns select allocation) = answering allocation (reported_luns select)
 plan_asked capacity s i sent request = unwrap_or (plan_of request sent (not s.settings.wce) s.settings.per) Over
 
--- without a map nothing of the medium: MEDIUM FORMAT CORRUPTED
+-- while the map is corrupt, a command that needs the medium owes MEDIUM FORMAT CORRUPTED alone
 abbrev pub plan_with_map : ℕ → State → ℕ → DataOut → Request → Plan
 plan_with_map capacity s i sent request =
     if s.corrupt && is_medium request then refusing (sense_of 3 0x31 0x00) else plan_asked capacity s i sent request
 
--- a refused command block
+-- a command block that fails a check owes that check's sense data alone
 abbrev pub plan_unless_refused : ℕ → State → ℕ → DataOut → Result Request Sense → Plan
 plan_unless_refused capacity s i sent (Ok request) = plan_with_map capacity s i sent request
 plan_unless_refused capacity s i sent (Err sense) = refusing sense
 
--- what an initiator's command owes at its start: an attention that waits, a refused command block, a map that is missing, and
--- then what it asks for
+-- what a command owes at its start, by the first rule that applies: an attention that it meets, a check that it fails, a
+-- map that is corrupt, and else what it asks for
 abbrev pub first_plan : ℕ → State → ℕ → Duty → Plan
 first_plan capacity s i duty =
     option_map_or refusing (attention_met s.waiting i duty.code) (plan_unless_refused capacity s i duty.sent duty.asks)

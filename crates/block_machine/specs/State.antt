@@ -15,8 +15,8 @@ use Rattle.mode_pages.specs.Settings.{default_settings}
 use Rattle.block_machine.specs.Blocks.{Blocks, blocks_at_start}
 use Rattle.block_machine.specs.Scan.{Scan, scan_at_start}
 
--- a command: its operation code, what it asks for or why it is refused, the data that came with it, from its start on what it
--- still owes, and the blocks that were dirty when the last turn of work on it began
+-- what is known of a command: its operation code; what it asks for, or why it is refused; the data that came with it; from
+-- its start on its plan, what it still owes; and the blocks that were dirty when the last turn of work on it began
 pub record Duty : Type 0 where
   pub code : ℕ
   pub asks : Result Request Sense
@@ -24,12 +24,13 @@ pub record Duty : Type 0 where
   pub owes : Option Plan
   pub dirty_then : List ℕ
 
--- what no command asks for
+-- what is known of a number that no command has
 abbrev pub no_duty : Duty
 no_duty = record { code = 0; asks = Err (sense_of 5 0x20 0x00); sent = Nothing; owes = None; dirty_then = [] }
 
--- how many commands came; those that are in, by age; each command by its number; the mode values; the attentions that wait;
--- whether the map was corrupt when the power came on; the background scan; the blocks, and the addresses of the dirty ones
+-- what a history has come to: how many commands came; those that are in, by age; what is known of each, by its number; the
+-- mode values; the attentions that wait; whether the map was corrupt when the power came on; the background scan; the
+-- blocks, and the addresses of the dirty ones
 pub record State : Type 0 where
   pub arrived : ℕ
   pub set : List Member
@@ -41,7 +42,7 @@ pub record State : Type 0 where
   pub blocks : Blocks
   pub dirty : List ℕ
 
--- at the start, with attentions that wait
+-- before the first turn, with attentions that wait
 abbrev pub state_at_start : Waiting → State
 state_at_start waiting = record {
   arrived = 0;
@@ -59,6 +60,7 @@ state_at_start waiting = record {
 abbrev pub tasks_at_most : ℕ
 tasks_at_most = 64
 
+-- as many commands are in as may be
 abbrev pub is_full : State → Bool
 is_full s = not (nat_lt (length s.set) tasks_at_most)
 
@@ -66,6 +68,6 @@ is_full s = not (nat_lt (length s.set) tasks_at_most)
 abbrev pub initiator_of : State → ℕ → ℕ
 initiator_of s c = option_map_or (λ m. m.task.initiator) (member_of s.set c) 0
 
--- what a command owes, where it is in
+-- the plan of a command, what it owes, where it is in
 abbrev pub owed_by : State → ℕ → Option Plan
 owed_by s c = option_and_then (λ m. (s.duties c).owes) (member_of s.set c)

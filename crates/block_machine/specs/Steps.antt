@@ -31,6 +31,7 @@ use Rattle.block_machine.specs.State.{State, Duty, is_full, initiator_of}
 use Rattle.block_machine.specs.Plans.{first_plan}
 use Rattle.block_machine.specs.Deeds.{Done, done_by, owed_after}
 
+-- how many commands came, after an entry
 abbrev pub arrived_after : ℕ → Entry → ℕ
 arrived_after arrived (Arrived c i t a cdb sent) = arrived + 1
 arrived_after arrived other = arrived
@@ -45,7 +46,8 @@ abbrev pub task_arrived : ℕ → ℕ → ℕ → Tag → Attribute → List ℕ
 task_arrived capacity c i t a cdb sent =
     record { c = c; initiator = i; tag = t; attribute = a; touch = touch_asked (read_of cdb sent capacity) }
 
--- the commands that are in: one that comes, unless as many are in as may be, until it ends or is aborted or the power goes off
+-- the commands that are in, after an entry: one that comes is, unless as many are in as may be, until it ends or is aborted
+-- or the power goes off
 abbrev pub set_after : ℕ → State → Entry → List Member
 set_after capacity s (Arrived c i t a cdb sent) = if is_full s then s.set else with_arrived s.set (task_arrived capacity c i t a cdb sent)
 set_after capacity s (Started c) = with_started s.set c
@@ -54,16 +56,17 @@ set_after capacity s (Aborted c) = without s.set c
 set_after capacity s Cut = []
 set_after capacity s other = s.set
 
--- the commands where one owes something else
+-- what is known of commands, where one owes something else now
 abbrev pub with_owed : (ℕ → Duty) → ℕ → Option Plan → ℕ → Duty
 with_owed duties c owes = put_at c (record (duties c) { owes = owes }) duties
 
--- the commands after what one did, if one did something
+-- what is known of commands after what one did, if one did something
 abbrev pub duties_done : State → Option Done → ℕ → Duty
 duties_done s None = s.duties
 duties_done s (Some d) = with_owed s.duties d.c (owed_after s d)
 
--- the commands: a new one owes nothing yet, one that starts what the first rule says, and then what is left of that
+-- what is known of commands after an entry: one that comes owes nothing yet, one that starts owes what the first rule says,
+-- and of that is left what its deeds leave
 abbrev pub duties_after : ℕ → Label → State → Entry → ℕ → Duty
 duties_after capacity label s (Arrived c i t a cdb sent) = put_at c (record {
   code = slice_index cdb 0;
@@ -75,14 +78,14 @@ duties_after capacity label s (Arrived c i t a cdb sent) = put_at c (record {
 duties_after capacity label s (Started c) = with_owed s.duties c (Some (first_plan capacity s (initiator_of s c) (s.duties c)))
 duties_after capacity label s e = duties_done s (done_by label s e)
 
--- mode values go back to the defaults at a reset and at power on
+-- the mode values after an entry: those that a MODE SELECT made, or the defaults at a reset and at power on
 abbrev pub settings_after : Settings → Entry → Settings
 settings_after settings (Mode made) = made
 settings_after settings (Asked i Reset) = default_settings
 settings_after settings (PoweredOn outcome) = default_settings
 settings_after settings other = settings
 
--- the command shows its initiator the first attention
+-- what is asked for is REQUEST SENSE, which shows its initiator the first attention
 abbrev pub is_request_sense : Result Request Sense → Bool
 is_request_sense (Ok (RequestSense allocation)) = true
 is_request_sense other = false
@@ -92,7 +95,7 @@ abbrev pub waiting_at_start : Waiting → ℕ → Duty → Waiting
 waiting_at_start waiting i duty =
     if is_some (attention_met waiting i duty.code) || is_request_sense duty.asks then first_taken waiting i else waiting
 
--- the attentions that wait
+-- the attentions that wait, after an entry
 abbrev pub waiting_after : Label → State → Entry → Waiting
 waiting_after label s (Started c) = waiting_at_start s.waiting (initiator_of s c) (s.duties c)
 waiting_after label s (Asked i Clear) = after_clear i s.set s.waiting
@@ -107,6 +110,7 @@ is_corrupt (Ready number) = false
 is_corrupt (Corrupt slot) = true
 is_corrupt (Formatting number) = false
 
+-- whether the map couldn't be read when the power last came on
 abbrev pub corrupt_after : Bool → Entry → Bool
 corrupt_after corrupt (PoweredOn outcome) = is_corrupt outcome
 corrupt_after corrupt other = corrupt
@@ -125,11 +129,11 @@ entry_after capacity label s e = record {
   dirty = dirty_after s.dirty e;
 }
 
--- the state when a turn begins: work on a command finds these blocks dirty
+-- the state when a turn begins: for work on a command the blocks that are dirty now are noted
 abbrev pub begun : State → Label → State
 begun s (Work c) = record s { duties = put_at c (record (s.duties c) { dirty_then = s.dirty }) s.duties }
 begun s other = s
 
--- the state after entries of a turn
+-- the state after the entries of a turn
 abbrev pub entries_after : ℕ → Label → State → List Entry → State
 entries_after capacity label s entries = fold (entry_after capacity label) s entries

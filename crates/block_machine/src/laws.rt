@@ -1,6 +1,9 @@
 //! Laws on legal histories: each is the clause of a function that does nothing.
 
 ghost use Rattle.block_machine.specs.Laws.{OfLegalHistories, OfTaskLegalHistories, ReadsGiveWhatWasPutLast, HardenedValuesStay, ReadsGiveHardenedOrNewer, FirstReadSettles, BeginningsAreLegal, ReadsGetEachBlockOnce, ForcedWritesAreHardened, SyncsFindEachBlockHardened, CommandsAreAccountedFor, EndsHaveTheirStatus, NoneEndsTwice, SuccessesFollowStarts};
+ghost use Rattle.block_machine.specs.KeptValues.{ReadsGiveTheirOwnWrite, RuledOutValuesStayOut, DirtyBlocksArePending};
+ghost use Rattle.block_machine.specs.Lives.{WritesPutEachBlockOnce, SyncsHardenWhatWasPut, ForcedWritesStand, SyncedValuesStand};
+ghost use Rattle.block_machine.specs.Stages.{EntriesFitTheirStage};
 
 /// Without a power cut, a read that isn't bad gives the value that was put last, or zeros. So a block that was given up
 /// since is bad.
@@ -54,4 +57,46 @@ pub fn commands_are_accounted_for()
     ensures statuses { OfTaskLegalHistories EndsHaveTheirStatus }
     ensures once { OfTaskLegalHistories NoneEndsTwice }
     ensures started { OfTaskLegalHistories SuccessesFollowStarts }
+{}
+
+/// A read that isn't bad gives the value that was put last, also after earlier power cuts, where since that put the power
+/// stayed on and the block wasn't given up.
+pub fn reads_give_their_own_write()
+    ensures { OfLegalHistories ReadsGiveTheirOwnWrite }
+{}
+
+/// Of two reads of a block that aren't bad, over power cuts between, the later gives what the earlier gave or a value that was put
+/// between, where each value that was put before the earlier one was hardened, or cut off, before it.
+pub fn ruled_out_values_stay_out()
+    ensures { OfLegalHistories RuledOutValuesStayOut }
+{}
+
+/// The dirty blocks are those to which something newer came that was neither hardened nor cut off since; the list of dirty
+/// addresses has each of them once.
+pub fn dirty_blocks_are_pending()
+    ensures { DirtyBlocksArePending }
+{}
+
+/// A write of any kind that ends GOOD, or with a recovered error, put each of its blocks, once, in order and with its data.
+pub fn writes_put_each_block_once()
+    ensures { OfTaskLegalHistories WritesPutEachBlockOnce }
+{}
+
+/// Of each command nothing comes before its arrival; then until its start only TASK SET FULL or an abort; and nothing behind its
+/// end, its abort or a power cut.
+pub fn entries_fit_their_stage()
+    ensures { OfTaskLegalHistories EntriesFitTheirStage }
+{}
+
+/// What was put at a block of a sync's range before the sync started is hardened before the sync ends GOOD, where the power stayed
+/// on from the put to the start.
+pub fn syncs_harden_what_was_put()
+    ensures { OfLegalHistories SyncsHardenWhatWasPut }
+{}
+
+/// Once a write that goes through has succeeded, or a sync of what was put before it started, what was put is what each later read of
+/// the block gives that isn't bad, over any power cuts, until something newer is put or the block is given up.
+pub fn hardened_writes_stand()
+    ensures forced { OfLegalHistories ForcedWritesStand }
+    ensures synced { OfLegalHistories SyncedValuesStand }
 {}

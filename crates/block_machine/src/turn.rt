@@ -19,8 +19,8 @@ pub enum Label {
     World(World),
 }
 
-/// One turn of the drive: its label, its entries, and the places of its operations on the platter, from `ops_from` to
-/// below `ops_to`.
+/// One turn of the drive: its label, its entries, and the places of its operations among those that the platter did since
+/// the factory, from `ops_from` to below `ops_to`.
 #[derive(Debug, Drop)]
 pub struct Turn {
     pub label: Label,

@@ -52,26 +52,25 @@ after_written w =
 abbrev pub when : Bool → Plan → Option Plan
 when may plan = if may then Some plan else None
 
--- a read ends here: all blocks were got, and it is GOOD or may report a recovery; or the block that comes next is dirty and couldn't
--- be written
-abbrev pub may_end_reading : reading.Reading → Reply → Bool → Bool
-may_end_reading r reply dirty =
-    (r.at == r.end && (same_reply reply good || r.reports && is_recovered reply))
-    || (nat_lt r.at r.end && r.through && dirty && is_write_error r.at reply)
-
--- a write ends here: all blocks were put; or the one that comes next couldn't be written
-abbrev pub may_end_writing : writing.Writing → Reply → Bool
-may_end_writing w reply =
-    not w.owes_harden && ((w.at == w.end && same_reply reply good) || (nat_lt w.at w.end && is_write_error w.at reply))
-
--- a sync ends here: its range is behind it; or the block that comes next is dirty and couldn't be written
-abbrev pub may_end_syncing : ℕ → ℕ → Reply → Bool → Bool
-may_end_syncing at end reply dirty =
-    (at == end && same_reply reply good) || (nat_lt at end && dirty && is_write_error at reply)
-
 -- the blocks after the last that was hardened; those before it are moved, of these any number may be
 abbrev pub blocks_left : moving.Moving → List Lba
 blocks_left m = drop m.hardened m.blocks
+
+-- how a command may end by what it still owes, where the block that its reply names is dirty or not: with the reply that is owed;
+-- once all its blocks are got, put or behind it with GOOD, or a read with a recovered error where that may be reported; with
+-- WRITE ERROR at the next block, where that was to be written; or for want of a spare at a block that is left
+abbrev pub may_end : Plan → Bool → Reply → Bool
+may_end (Ending owed) dirty reply = same_reply reply owed
+may_end (Unread b) dirty reply = same_reply reply (unrecovered_read b)
+may_end (Reading r) dirty reply =
+    (r.at == r.end && (same_reply reply good || r.reports && is_recovered reply))
+    || (nat_lt r.at r.end && r.through && dirty && is_write_error r.at reply)
+may_end (Writing w) dirty reply =
+    not w.owes_harden && ((w.at == w.end && same_reply reply good) || (nat_lt w.at w.end && is_write_error w.at reply))
+may_end (Syncing s) dirty reply =
+    (s.at == s.end && same_reply reply good) || (nat_lt s.at s.end && dirty && is_write_error s.at reply)
+may_end (Moving m) dirty reply = same_reply reply good || list_any (λ block. same_reply reply (no_spare block.0)) (blocks_left m)
+may_end plan dirty reply = false
 
 -- the move of a block is done, and of all before it
 abbrev pub after_move : moving.Moving → Option ℕ → Option Plan
@@ -80,8 +79,6 @@ after_move m (Some i) = Some (Moving (record m { hardened = m.hardened + i + 1 }
 
 -- the plan after a deed, where the deed may come
 abbrev pub next : Plan → Deed → Option Plan
-next (Ending reply) (Ended given dirty) = when (same_reply given reply) Over
-next (Unread b) (Ended given dirty) = when (same_reply given (unrecovered_read b)) Over
 next (Answering bytes reply) (Page given) = when (bytes_eq given bytes) (Ending reply)
 next Changing Mode = Some (Ending good)
 next (Reading r) (Hardened b) =
@@ -89,19 +86,16 @@ next (Reading r) (Hardened b) =
 next (Reading r) (Got b (Data d) dirty) =
     when (b.0 == r.at && nat_lt r.at r.end && not (r.through && dirty)) (Reading (record r { at = r.at + 1; hardened = false }))
 next (Reading r) (Got b Lost dirty) = when (b.0 == r.at && nat_lt r.at r.end && not (r.through && dirty)) (Unread r.at)
-next (Reading r) (Ended reply dirty) = when (may_end_reading r reply dirty) Over
 next (Writing w) (Put b block full) =
     when (not w.owes_harden && b.0 == w.at && nat_lt w.at w.end && bytes_eq block (block_of w.sent (w.at - w.from)))
     (if w.through || full then Writing (record w { owes_harden = true }) else after_written w)
 next (Writing w) (Hardened b) = when (w.owes_harden && b.0 == w.at && nat_lt w.at w.end) (after_written w)
-next (Writing w) (Ended reply dirty) = when (may_end_writing w reply) Over
 next (Syncing s) (Passed from to) =
     when (from.0 == s.at && nat_lt s.at to.0 && nat_le to.0 s.end) (Syncing (record s { at = to.0 }))
 next (Syncing s) (Hardened b) = when (b.0 == s.at && nat_lt s.at s.end) (Syncing (record s { at = s.at + 1 }))
-next (Syncing s) (Ended reply dirty) = when (may_end_syncing s.at s.end reply dirty) Over
 next (Moving m) (Hardened b) = after_move m (position (λ block. block.0 == b.0) (blocks_left m))
-next (Moving m) (Ended reply dirty) =
-    when (same_reply reply good || list_any (λ block. same_reply reply (no_spare block.0)) (blocks_left m)) Over
+next Over deed = None
+next plan (Ended reply dirty) = when (may_end plan dirty reply) Over
 next plan deed = None
 
 -- a plan, or GOOD at once where the command names no block

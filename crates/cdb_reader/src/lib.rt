@@ -9,8 +9,6 @@ mod pages;
 mod plan;
 mod reader;
 mod reassign;
-#[cfg(test)]
-mod tests;
 
 pub use command::{Command, touch};
 pub use plan::{Deed, Moving, Plan, Reading, Syncing, Writing};

@@ -14,8 +14,6 @@ mod entry;
 mod fault;
 mod form;
 mod history;
-#[cfg(test)]
-mod history_tests;
 mod kept;
 mod known;
 mod laws;
@@ -25,8 +23,6 @@ mod reply;
 mod state;
 mod steps;
 mod tasks;
-#[cfg(test)]
-mod tests;
 mod turns;
 
 pub use address::settle_dirty;

@@ -1,9 +1,9 @@
 //! What a started command still owes after a deed.
-ghost use Rattle.std.specs.Prelude.{◌≡◌, ◌<◌, ◌+◌, ◌*◌, ◌==◌, ◌&&◌, ◌||◌, nat_lt, slice_range};
+ghost use Rattle.std.specs.Prelude.{◌≡◌, ◌<◌, ◌+◌, ◌*◌, ◌==◌, ◌&&◌, false, nat_lt, slice_range};
 ghost use Rattle.std.specs.List.{list_any, position};
 ghost use Rattle.std.specs.Str.{bytes_eq};
-ghost use Rattle.cdb_reader.specs.Plan.{next, after_move, block_of, after_written, blocks_left, may_end_reading, may_end_writing, may_end_syncing, when};
-ghost use Rattle.cdb_reader.specs.Replies.{good, same_reply, no_spare};
+ghost use Rattle.cdb_reader.specs.Plan.{next, after_move, block_of, after_written, blocks_left, may_end, when};
+ghost use Rattle.cdb_reader.specs.Replies.{same_reply, no_spare};
 ghost use Rattle.history_replay.specs.Steps.{plan_got, plan_put};
 
 use crate::reply::{
@@ -200,9 +200,7 @@ fn after_syncing(syncing: Syncing, deed: &Deed) -> Option<Plan>
                 None
             }
         }
-        Deed::Ended { reply, dirty } => {
-            over_where(may_end_syncing(syncing.at, syncing.end, reply, *dirty))
-        }
+        Deed::Ended { reply, dirty } => { over_where(may_end_syncing(&syncing, reply, *dirty)) }
         _ => None,
     }
 }
@@ -245,7 +243,7 @@ fn is_next(b: Lba, at: u64, end: u64) -> bool
 }
 
 fn may_end_reading(reading: &Reading, reply: &Reply, dirty: bool) -> bool
-    ensures { result ≡ may_end_reading reading.now reply.now dirty }
+    ensures { result ≡ may_end (Plan.Reading reading.now) dirty reply.now }
 {
     (reading.at == reading.end && (is_good(reply) || reading.reports && is_recovered(reply)))
         || (reading.at < reading.end
@@ -254,22 +252,24 @@ fn may_end_reading(reading: &Reading, reply: &Reply, dirty: bool) -> bool
             && is_write_error(reading.at, reply))
 }
 
+// Dirty blocks are all the same to a write, and to a move.
 fn may_end_writing(writing: &Writing, reply: &Reply) -> bool
-    ensures { result ≡ may_end_writing writing.now reply.now }
+    ensures { result ≡ may_end (Plan.Writing writing.now) false reply.now }
 {
     !writing.owes_harden
         && ((writing.at == writing.end && is_good(reply))
             || (writing.at < writing.end && is_write_error(writing.at, reply)))
 }
 
-fn may_end_syncing(at: u64, end: u64, reply: &Reply, dirty: bool) -> bool
-    ensures { result ≡ may_end_syncing at end reply.now dirty }
+fn may_end_syncing(syncing: &Syncing, reply: &Reply, dirty: bool) -> bool
+    ensures { result ≡ may_end (Plan.Syncing syncing.now) dirty reply.now }
 {
-    (at == end && is_good(reply)) || (at < end && dirty && is_write_error(at, reply))
+    (syncing.at == syncing.end && is_good(reply))
+        || (syncing.at < syncing.end && dirty && is_write_error(syncing.at, reply))
 }
 
 fn may_end_moving(moving: &Moving, reply: &Reply) -> bool
-    ensures { result ≡ (same_reply reply.now good || list_any (λ block. same_reply reply.now (no_spare block.0)) (blocks_left moving.now)) }
+    ensures { result ≡ may_end (Plan.Moving moving.now) false reply.now }
 {
     is_good(reply) || some_without_spare(left(moving), reply)
 }

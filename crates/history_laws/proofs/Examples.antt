@@ -1,0 +1,116 @@
+-- For each law a history that meets its premises, and one that would break it and isn't legal.
+use Rattle.std.proofs.Common.{◌≡◌, ℕ, true, false, List, [], ◌∷◌, ◌++◌, refl}
+use Rattle.std.specs.Prelude.{Some, None}
+use Rattle.disk_base.specs.Along.{all_along}
+use Rattle.disk_base.specs.declared.command.Attribute.TheVariants.{Ordered, Head}
+use Rattle.disk_base.specs.declared.command.DataOut.TheVariants.{Nothing, Fill}
+use Rattle.cdb_reader.specs.Operation.{operation_of}
+use Rattle.block_machine.specs.declared.entry.Recovered.TheVariants.{Ready}
+use Rattle.block_machine.specs.declared.turn.Turn.{Turn}
+use Rattle.block_machine.specs.History.{entries_of}
+use Rattle.block_machine.specs.KeptValues.{is_pending}
+use Rattle.block_machine.specs.Stages.{Coming, stage_after, fits_stage}
+use Rattle.block_machine.proofs.Building.{read, write, sync, test_unit_ready, comes, comes_as, sends, starts, at_once, works, get, get_bad, put, hard, pass, good, fails_at, cut, power, told, reads, reads_bad, writes, forces, is_legal}
+use Rattle.history_laws.specs.Order.{inside_after, starts_in_order}
+use Rattle.history_laws.specs.Unread.{last_bad}
+
+-- the power goes off and comes on, and the first initiator is told so
+off_and_on : ℕ → List Turn
+off_and_on c = cut ∷ power (Ready 1) ∷ told c 1 0x29 0x01
+
+-- a read behind a write, over an earlier cut: its value, and the one before it
+own_write : (is_legal (off_and_on 1 ++ writes 2 5 1 ++ reads 3 5 1) ≡ true) × (is_legal (off_and_on 1 ++ writes 2 5 1 ++ reads 3 5 0) ≡ false)
+unfolding operation_of off_and_on
+own_write = (refl, refl)
+
+-- what a cut left open is settled by a read: the value that it ruled out doesn't come back after another cut
+settled : List Turn
+settled = writes 1 5 1 ++ off_and_on 2 ++ reads 3 5 0 ++ off_and_on 4
+
+ruled_out : (is_pending 5 (entries_of (writes 1 5 1 ++ off_and_on 2)) ≡ false) × (is_legal (settled ++ reads 5 5 0) ≡ true) × (is_legal (settled ++ reads 5 5 1) ≡ false)
+unfolding operation_of off_and_on settled
+ruled_out = (refl, refl, refl)
+
+-- a write of two blocks: both, one alone, and one twice
+write_of_two : List Turn
+write_of_two = sends 1 1 (write 5 2) (Fill 1) ∷ starts 1 ∷ []
+
+puts_each : (is_legal (write_of_two ++ works 1 (put 1 5 1 ∷ put 1 6 1 ∷ good 1 ∷ []) ∷ []) ≡ true)
+    × (is_legal (write_of_two ++ works 1 (put 1 5 1 ∷ good 1 ∷ []) ∷ []) ≡ false)
+    × (is_legal (write_of_two ++ works 1 (put 1 5 1 ∷ put 1 5 1 ∷ good 1 ∷ []) ∷ []) ≡ false)
+unfolding operation_of write_of_two
+puts_each = (refl, refl, refl)
+
+-- a sync behind a write of its block: with the harden, and without
+sync_behind : List Turn
+sync_behind = writes 1 5 1 ++ comes 2 1 (sync 5 1) ∷ starts 2 ∷ []
+
+sync_hardens : (is_legal (sync_behind ++ works 2 (hard 2 5 ∷ good 2 ∷ []) ∷ []) ≡ true)
+    × (is_legal (sync_behind ++ works 2 (pass 2 5 6 ∷ good 2 ∷ []) ∷ []) ≡ false)
+    × (is_legal (sync_behind ++ works 2 (good 2 ∷ []) ∷ []) ≡ false)
+unfolding operation_of sync_behind
+sync_hardens = (refl, refl, refl)
+
+-- what went through, or was synced, is read after a cut; what was there before it isn't
+forced_stands : (is_legal (forces 1 5 1 ++ off_and_on 2 ++ reads 3 5 1) ≡ true) × (is_legal (forces 1 5 1 ++ off_and_on 2 ++ reads 3 5 0) ≡ false)
+unfolding operation_of off_and_on
+forced_stands = (refl, refl)
+
+synced : List Turn
+synced = sync_behind ++ works 2 (hard 2 5 ∷ good 2 ∷ []) ∷ off_and_on 3
+
+synced_stands : (is_legal (synced ++ reads 4 5 1) ≡ true) × (is_legal (synced ++ reads 4 5 0) ≡ false)
+unfolding operation_of off_and_on sync_behind synced
+synced_stands = (refl, refl)
+
+-- a command does nothing before its start, and nothing behind its end
+too_early : List Turn
+too_early = comes 1 1 (read 5 1) ∷ works 1 (get 1 5 0 ∷ []) ∷ []
+
+too_late : List Turn
+too_late = reads 1 5 0 ++ works 1 (get 1 5 0 ∷ []) ∷ []
+
+stages : (is_legal (reads 1 5 0) ≡ true) × (is_legal too_early ≡ false) × (is_legal too_late ≡ false)
+unfolding operation_of too_early too_late
+stages = (refl, refl, refl)
+
+stages_told : (all_along (stage_after 1) (fits_stage 1) Coming (entries_of (reads 1 5 0)) ≡ true)
+    × (all_along (stage_after 1) (fits_stage 1) Coming (entries_of too_early) ≡ false)
+    × (all_along (stage_after 1) (fits_stage 1) Coming (entries_of too_late) ≡ false)
+unfolding too_early too_late
+stages_told = (refl, refl, refl)
+
+-- behind an ORDERED command a HEAD OF QUEUE one starts, and a SIMPLE one doesn't; nor does the ORDERED one past an older one
+passing_head : List Turn
+passing_head = comes_as Ordered 1 1 test_unit_ready Nothing ∷ comes_as Head 2 2 test_unit_ready Nothing ∷ at_once 2 (good 2 ∷ []) ∷ at_once 1 (good 1 ∷ []) ∷ []
+
+passing_simple : List Turn
+passing_simple = comes_as Ordered 1 1 test_unit_ready Nothing ∷ comes 2 2 test_unit_ready ∷ at_once 2 (good 2 ∷ []) ∷ []
+
+passing_older : List Turn
+passing_older = comes 1 1 test_unit_ready ∷ comes_as Ordered 2 2 test_unit_ready Nothing ∷ at_once 2 (good 2 ∷ []) ∷ []
+
+in_order : (is_legal passing_head ≡ true) × (is_legal passing_simple ≡ false) × (is_legal passing_older ≡ false)
+unfolding operation_of passing_head passing_simple passing_older
+in_order = (refl, refl, refl)
+
+order_told : (all_along inside_after starts_in_order [] (entries_of passing_head) ≡ true)
+    × (all_along inside_after starts_in_order [] (entries_of passing_simple) ≡ false)
+    × (all_along inside_after starts_in_order [] (entries_of passing_older) ≡ false)
+unfolding passing_head passing_simple passing_older
+order_told = (refl, refl, refl)
+
+-- a read that ends with UNRECOVERED READ ERROR: with its bad get, without it, and at another block
+unread : (is_legal (reads_bad 1 5) ≡ true)
+    × (is_legal (comes 1 1 (read 5 1) ∷ starts 1 ∷ works 1 (fails_at 1 3 0x11 0x00 5 ∷ []) ∷ []) ≡ false)
+    × (is_legal (comes 1 1 (read 5 1) ∷ starts 1 ∷ works 1 (get_bad 1 5 ∷ fails_at 1 3 0x11 0x00 6 ∷ []) ∷ []) ≡ false)
+unfolding operation_of
+unread = (refl, refl, refl)
+
+-- .. and in the turn of the bad get
+unread_at_once : is_legal (comes 1 1 (read 5 1) ∷ starts 1 ∷ works 1 (get_bad 1 5 ∷ []) ∷ works 1 (fails_at 1 3 0x11 0x00 5 ∷ []) ∷ []) ≡ false
+unfolding operation_of
+unread_at_once = refl
+
+bad_told : (last_bad 1 (get_bad 1 5 ∷ get 2 6 0 ∷ []) ≡ Some 5) × (last_bad 1 (get_bad 1 5 ∷ get 1 6 0 ∷ []) ≡ None) × (last_bad 1 (get_bad 2 5 ∷ []) ≡ None)
+bad_told = (refl, refl, refl)

@@ -1,0 +1,3 @@
+mod Examples
+pub mod OrderLaw
+pub mod UnreadLaw
