@@ -5,6 +5,10 @@ pub mod Made
 pub mod Calls
 pub mod SpareSectors
 pub mod WritesInOrder
+pub mod TriesInOrder
+pub mod Rewriting
+pub mod Recovering
+mod Histories
 pub mod RecordOps
 pub mod MapOps
 pub mod Committing

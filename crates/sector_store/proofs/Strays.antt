@@ -7,6 +7,7 @@ use Rattle.std.proofs.lemmas.Bool.{eqb-true, not-false}
 use Rattle.std.proofs.lemmas.Slice.Eq.{bytes_eq-Decides}
 use Rattle.disk_base.specs.declared.address.Psn.{Psn}
 use Rattle.disk_base.specs.declared.payload.Payload.{Payload}
+use Rattle.disk_base.specs.declared.stage.Stage.{Stage}
 use Rattle.platter_model.specs.declared.op.Op.{Op}
 use Rattle.platter_model.specs.declared.op.Op.TheVariants.{Fetched, Tried}
 use Rattle.platter_model.specs.Sector.{meant}
@@ -64,13 +65,16 @@ none-more : (stray : Bool) (a b c : ℕ) → a ≡ b + (if stray then 1 else 0) 
 none-more true a b c one none same = absurd (omega arith)
 none-more false a b c one none same = refl
 
+pub found_is_meant : (ops : List Op) (p : Psn) (stage : Stage) (payload : Payload)
+    → strays (ops ++ Fetched p (attempt_of stage) ∷ [] ++ Tried (length ops) p stage (Some payload) ∷ []) ≡ strays ops → meant p ops ≡ Some payload
+found_is_meant ops p stage payload same =
+    let fetch : Op = Fetched p (attempt_of stage) in
+    let note : Op = Tried (length ops) p stage (Some payload) in
+    let P : List Op → Type 0 = λ os. is_other (meant p os) (Some payload) ≡ false in
+    let quiet : is_stray (ops ++ fetch ∷ []) note ≡ false =
+    none-more (is_stray (ops ++ fetch ∷ []) note) (strays (ops ++ fetch ∷ [] ++ note ∷ [])) (strays (ops ++ fetch ∷ [])) (strays ops)
+    (strays-push (ops ++ fetch ∷ []) note) (strays-push ops fetch) same in
+    no_other-is (meant p ops) payload (subst P (take-append_seam ops (fetch ∷ [])) quiet)
+
 pub tries_find_what_is_stored : TriesFindWhatIsStored
-tries_find_what_is_stored m s b stage payload same =
-    let p : Psn = place_of m b in
-    let fetch : Op = Fetched (place_of m b) (attempt_of stage) in
-    let note : Op = Tried (length s.ops) (place_of m b) stage (Some payload) in
-    let P : List Op → Type 0 = λ ops. is_other (meant p ops) (Some payload) ≡ false in
-    let quiet : is_stray (s.ops ++ fetch ∷ []) note ≡ false =
-    none-more (is_stray (s.ops ++ fetch ∷ []) note) (strays (s.ops ++ fetch ∷ [] ++ note ∷ [])) (strays (s.ops ++ fetch ∷ [])) (strays s.ops)
-    (strays-push (s.ops ++ fetch ∷ []) note) (strays-push s.ops fetch) same in
-    sym (ap (value_in b) (no_other-is (meant p s.ops) payload (subst P (take-append_seam s.ops (fetch ∷ [])) quiet)))
+tries_find_what_is_stored m s b stage payload same = sym (ap (value_in b) (found_is_meant s.ops (place_of m b) stage payload same))

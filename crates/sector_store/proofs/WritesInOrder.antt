@@ -162,6 +162,46 @@ write-room s p payload on = by_power (is_off s.ops) on
     by_power true still = omega arith
     by_power false still = by_fault (is_faulty p s.ops) still
 
+never_both : (b : Bool) → b ≡ true → b ≡ false → ⊥
+never_both b is not_so = let e : true ≡ false = sym is ∙ not_so in cc
+
+-- the room that several take
+pub writes_room : (s : State) (payloads : List Payload) → is_off (after_writes s payloads).ops ≡ false
+    → s.room ≤ (after_writes s payloads).room + length payloads
+writes_room s [] on = omega arith
+writes_room s (payload ∷ payloads) on = by (is_off (after_own_write s payload).ops) refl (writes_room (after_own_write s payload) payloads on)
+  where
+    by : (off : Bool) → is_off (after_own_write s payload).ops ≡ off
+        → (after_own_write s payload).room ≤ (after_writes (after_own_write s payload) payloads).room + length payloads
+        → s.room ≤ (after_writes (after_own_write s payload) payloads).room + suc (length payloads)
+    by true off rest =
+        absurd (never_both _ (ap (λ (x : State). is_off x.ops) (writes-off (after_own_write s payload) payloads off) ∙ off) on)
+    by false still rest =
+        let one = write-room s payload.psn payload still in
+        omega (arith, one, rest)
+
+-- writes of two lists, where the first were cut off, and where they were done
+pub both_cut : (s now : State) (first second : List Payload) → now ≡ after_writes s first → is_off now.ops ≡ true → now ≡ after_writes s (first ++ second)
+both_cut s now first second is off =
+    is ∙ (sym (writes-off (after_writes s first) second (ap (λ (x : State). is_off x.ops) (sym is) ∙ off)) ∙ sym (fold-append after_own_write s first second))
+
+pub both_done : (s middle now : State) (first second : List Payload) → middle ≡ after_writes s first → now ≡ after_writes middle second
+    → now ≡ after_writes s (first ++ second)
+both_done s middle now first second is then_is =
+    then_is ∙ (ap (λ (x : State). after_writes x second) is ∙ sym (fold-append after_own_write s first second))
+
+pub sectors_then : (s middle : State) (first : List Payload) → middle ≡ after_writes s first → 16 ≤ s.sectors → 16 ≤ middle.sectors
+sectors_then s middle first is sectors =
+    let same : middle.sectors ≡ s.sectors = ap (λ (x : State). x.sectors) is ∙ (keeps-writes s first).sectors in
+    omega (arith, same, sectors)
+
+pub room_then : (s middle : State) (first : List Payload) → middle ≡ after_writes s first → length first ≡ 8 → is_off middle.ops ≡ false → 17 ≤ s.room
+    → 9 ≤ middle.room
+room_then s middle first is eight on room =
+    let same : middle.room ≡ (after_writes s first).room = ap (λ (x : State). x.room) is in
+    let left = writes_room s first (ap (λ (x : State). is_off x.ops) (sym is) ∙ on) in
+    omega (arith, same, left, eight, room)
+
 -- one write more in front
 more_writes : (payload : Payload) (payloads : List Payload) (more : List Op) → AreWrites payloads more → AreWrites (payload ∷ payloads) (Wrote payload ∷ more)
 more_writes payload payloads more (inl is) = inl (ap (λ (ops : List Op). Wrote payload ∷ ops) is)
@@ -187,9 +227,6 @@ due-next n arming not_now =
 
 one_is_due : (n : ℕ) (arming : Arming) → arming.k ≡ 1 → IsDueWithin (suc n) (Some arming)
 one_is_due n arming first = (omega (arith, first), omega (arith, first))
-
-never_both : (b : Bool) → b ≡ true → b ≡ false → ⊥
-never_both b is not_so = let e : true ≡ false = sym is ∙ not_so in cc
 
 -- writes behind one that was carried out
 behind : (s : State) (payload : Payload) (payloads : List Payload) (next : State) → next.ops ≡ s.ops ++ Wrote payload ∷ []

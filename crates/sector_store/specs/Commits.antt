@@ -1,5 +1,5 @@
 -- The next map and its writes, and what keeps the maps safe while a commit or a recovery writes them.
-use Rattle.std.specs.Prelude.{◌≡◌, ℕ, ◌+◌, ◌-◌, List, ◌++◌, map}
+use Rattle.std.specs.Prelude.{◌≡◌, ℕ, ◌+◌, ◌-◌, ◌<◌, List, ◌++◌, map}
 use Rattle.platter_model.specs.declared.op.Op.{Op}
 use Rattle.platter_model.specs.declared.op.Op.TheVariants.{Wrote}
 use Rattle.geometry_map.specs.declared.size.Size.{Size}
@@ -36,3 +36,8 @@ pub record RecoversSafely (pair : KeptPair) (m : DefectMap) (ops more : List Op)
 abbrev pub RecoveryOpsStaySafe : Type 0
 RecoveryOpsStaySafe = (size : Size) (pair : KeptPair) (m : DefectMap) (ops more : List Op) → SafeMaps (meant_on ops) pair
     → MayBeTaken size (meant_on ops) m → AreWrites (recovery_records m) more → RecoversSafely pair m ops more
+
+-- once all writes of a recovery are there, the map is present with four more as its number, whatever was meant before
+abbrev pub RewrittenMapsArePresent : Type 0
+RewrittenMapsArePresent = (m : DefectMap) (ops : List Op) → m.slot < 2
+    → IsPresent (meant_on (ops ++ map Wrote (recovery_records m))) (record m { number = m.number + 4 })

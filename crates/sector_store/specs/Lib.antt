@@ -11,4 +11,6 @@ pub mod Writing
 pub mod Commits
 pub mod Spares
 pub mod Committing
+pub mod Recovering
+pub mod Histories
 pub mod Caching

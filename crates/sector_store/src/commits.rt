@@ -2,6 +2,7 @@
 ghost use Rattle.std.specs.Prelude.{◌≡◌, ◌↔◌, ◌⊎◌, ◌++◌, ◌-◌, ◌^◌, ◌≤◌, ◌<◌, true, false};
 ghost use Rattle.platter_model.specs.TrueLog.{is_off};
 ghost use Rattle.geometry_map.specs.DefectMap.{IsGrownList};
+ghost use Rattle.geometry_map.specs.Placer.{IsPlacerOf};
 ghost use Rattle.sector_store.specs.Maps.{next_map};
 ghost use Rattle.sector_store.specs.Writing.{IsDueWithin};
 ghost use Rattle.sector_store.specs.Commits.{IsNextOf};
@@ -14,7 +15,7 @@ use geometry_map::{Map, Pair, Placer};
 
 impl Store {
     /// Writes the map with more pairs, under the next number and to the other slot, in room for ten operations. Where a cut ends
-    /// it, a recovery finds the one map or the other.
+    /// it, a recovery finds the one map or the other. Once it is done, places go by the new map.
     pub fn commit(&mut self, pairs: &[Pair]) -> CommitAnswer
         requires fit { IsGrownList self.old.map.size self.old.map.primary (self.old.map.grown ++ pairs.now) }
         requires number { self.old.map.number < 2 ^ 64 - 1 }
@@ -38,12 +39,14 @@ impl Store {
         let number = self.map.number() + 1;
         let slot = 1 - self.map.slot();
         let next = self.map.with_pairs(pairs).with_number(number, slot);
-        self.commit_map(next)
+        let placer = self.placer.with_pairs(pairs);
+        self.commit_map(next, placer)
     }
 
-    // Writes the map that follows the store's, while the power is on.
-    fn commit_map(&mut self, next: Map) -> CommitAnswer
+    // Writes the map that follows the store's, whose placer comes with it, while the power is on.
+    fn commit_map(&mut self, next: Map, placer: Placer) -> CommitAnswer
         requires follows { IsNextOf self.old.map next }
+        requires placer { IsPlacerOf placer next }
         requires ready { self.old.ready ≡ true }
         requires on { is_off self.old.platter.ops ≡ false }
         requires room { 10 ≤ self.old.platter.room }
@@ -53,7 +56,7 @@ impl Store {
         commit_ops_stay_safe();
         present_maps_are_there();
         if write_records(&mut self.platter, &next) {
-            self.placer = Placer::of(&next);
+            self.placer = placer;
             self.map = next;
             return CommitAnswer::Done;
         }

@@ -1,6 +1,7 @@
 //! Laws of stores, each the contract of a function that only calls the laws that it rests on.
 ghost use Rattle.sector_store.specs.Spares.{SparesAreUserSectors, WritesToSparesKeepBlocks};
-ghost use Rattle.sector_store.specs.Commits.{CommitOpsStaySafe, RecoveryOpsStaySafe};
+ghost use Rattle.sector_store.specs.Commits.{CommitOpsStaySafe, RecoveryOpsStaySafe, RewrittenMapsArePresent};
+ghost use Rattle.sector_store.specs.Histories.{RecoveriesTakeLastMaps};
 ghost use Rattle.sector_store.specs.Laws.{FactoryMapsAreThere, FactoryPayloadsAreOnSectors, FactoryStoresKeepMaps, PresentMapsAreThere, QuietOpsKeepBlocks, QuietOpsKeepMaps, RecoveryFindsWhatIsStored, TriesFindWhatIsStored, WritesStoreOneBlock};
 
 use geometry_map::{
@@ -8,8 +9,8 @@ use geometry_map::{
 };
 use map_generations::{
     commits_stay_safe, present_maps_are_safe_alone, present_maps_are_taken, recoveries_stay_safe,
-    recovery_takes_the_present_map, safety_is_by_place, torn_writes_keep_maps_safe,
-    written_maps_are_present,
+    recovery_takes_kept_maps, recovery_takes_the_present_map, safety_is_by_place,
+    torn_writes_keep_maps_safe, written_maps_are_present,
 };
 
 /// Where a map is there, each map that recovery may take has its values for all blocks. So what stands can be read off the map
@@ -107,6 +108,22 @@ pub fn recovery_ops_stay_safe()
     recoveries_stay_safe();
     torn_writes_keep_maps_safe();
     safety_is_by_place();
+}
+
+/// Once all writes of a recovery are there, the map that was taken is present, whatever stood there before.
+pub fn rewritten_maps_are_present()
+    ensures { RewrittenMapsArePresent }
+{
+    written_maps_are_present();
+    safety_is_by_place();
+}
+
+/// Over any number of commits and recoveries, each cut off at any write, and whatever damage comes: a recovery takes the map that
+/// was committed last or the one that was being committed as the power went, or it finds the map corrupt; while no try is a stray.
+pub fn recoveries_take_last_maps()
+    ensures { RecoveriesTakeLastMaps }
+{
+    recovery_takes_kept_maps();
 }
 
 /// A spare is a sector of the drive, past those of the maps.

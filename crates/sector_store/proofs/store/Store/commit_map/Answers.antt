@@ -19,7 +19,7 @@ invariant_of-self c =
     let follows : IsNextOf c.self.inside.map c.args.next = subst (λ (n : DefectMap). IsNextOf n c.args.next) (sym (ap (λ (s : Contained). s.map) c.self.view_is)) c.requires.follows in
     let still : is_off c.write_records.new.platter.ops ≡ false = not_true _ _ c.if-write_records.true c.write_records.ensures.whole in
     record {
-      placer = c.of-self-inside.ensures;
+      placer = c.requires.placer;
       maps = subst (λ (b : Bool). KeepsMaps c.args.next c.self.inside.next b c.write_records.new.platter) (sym ready)
           (kept_done c.commit_ops_stay_safe.ensures c.present_maps_are_there.ensures c.self.inside.map c.args.next c.self.inside.next c.self.inside.platter
           c.write_records.new.platter kept on follows c.write_records.ensures.written still);
