@@ -27,7 +27,7 @@ use Rattle.drive_core.specs.declared.server.Server.{Server}
 use Rattle.drive_core.specs.declared.turning.MadeTurn.{MadeTurn}
 use Rattle.drive_scene.specs.Scene.{Scene, Beat, capacity, beat}
 use Rattle.drive_scene.specs.Evidence.{Shows}
-use Rattle.drive_scene.specs.Run.{Run, run_of, scene_of}
+use Rattle.drive_scene.specs.Run.{Run, behind_factory, run_of, scene_of}
 use Rattle.drive_scene.specs.View.{view}
 use Rattle.drive_core.specs.Commands.{IsStaged}
 use Rattle.drive_core.specs.Accepting.{accepted_of}
@@ -205,7 +205,7 @@ adds-turn made old new turns given coming number e t done is_turn kept label is 
 
 pub kept-after : (made : Made) (old new : Server) (turns given : List Turn) (coming next : ℕ) (e : Event) (t : Turn) (done : MadeTurn)
     → IsTurnOf (scene_of (run_of made old.store turns coming)) e old new t.entries done → Kept (run_of made old.store turns coming) old → t.label ≡ done.label
-    → t.ops_from ≡ length old.store.platter.ops → t.ops_to ≡ length new.store.platter.ops → given ≡ turns ++ t ∷ [] → Kept (run_of made new.store given next) new
+    → t.ops_from ≡ length (behind_factory made old.store.platter.ops) → t.ops_to ≡ length (behind_factory made new.store.platter.ops) → given ≡ turns ++ t ∷ [] → Kept (run_of made new.store given next) new
 kept-after made old new turns given coming next e t done is_turn kept label from to is =
     subst (λ (ts : List Turn). Kept (run_of made new.store ts next) new) (sym is)
     (kept-push made old new turns coming next t done.ended kept

@@ -1,5 +1,5 @@
 -- A drive from the factory: all its blocks are zeros, and its parts fit what a history begins with.
-use Rattle.std.proofs.Common.{◌≡◌, ◌<◌, true, List, [], Some, None, refl, sym, ap, subst, arith}
+use Rattle.std.proofs.Common.{◌≡◌, ◌<◌, true, List, [], ◌∷◌, length, drop, Some, None, refl, sym, ap, subst, arith}
 use Rattle.std.specs.Prelude.{◌^◌}
 use Rattle.std.proofs.lemmas.List.Elements.{All-nil}
 use Rattle.platter_model.specs.TrueLog.{is_unpowered}
@@ -15,7 +15,7 @@ use Rattle.drive_scene.specs.declared.made.Made.{Made}
 use Rattle.drive_core.specs.declared.accepted.Accepted.{Accepted}
 use Rattle.drive_core.specs.declared.server.Server.{Server}
 use Rattle.drive_scene.specs.Scene.{factory_ops, scene_at_start}
-use Rattle.drive_scene.specs.Run.{run_of}
+use Rattle.drive_scene.specs.Run.{run_of, behind_factory}
 use Rattle.drive_scene.specs.View.{view}
 use Rattle.drive_core.specs.Commands.{IsStaged}
 use Rattle.drive_core.specs.Accepting.{accepted_of}
@@ -30,6 +30,15 @@ pub record IsFresh (store : Contained) : Type 0 where
   pub finds : store.ready ≡ true → KeepsBlocks store.map store.platter.ops store.platter.ops
   pub may : store.ready ≡ true → store.map.number < 2 ^ 63 → MayBeRecovered store.map.size store.platter.ops store.map
 
+-- nothing is behind all
+none-behind : {A : Type 0} (xs : List A) → length (drop (length xs) xs) ≡ 0
+none-behind [] = refl
+none-behind (x ∷ xs) = none-behind xs
+
+fresh_follow : (made : Made) → length (behind_factory made (factory_ops made)) ≡ 0
+unfolding behind_factory
+fresh_follow made = none-behind (factory_ops made)
+
 fresh_at : (made : Made) (d : Server) → d.store ≡ made_by_factory made.size made.primary → FactoriesLeaveZeros
     → IsFresh (made_by_factory made.size made.primary) → d.set ≡ [] → d.commands.items ≡ [] → d.arrived ≡ 0 → KnowsStart (capacity_of made.size) d.known
     → Kept (run_of made (made_by_factory made.size made.primary) [] 0) (record d { store = made_by_factory made.size made.primary })
@@ -43,7 +52,7 @@ fresh_at made d is leaves fresh set commands arrived known =
     let zeros : IsFromFactory made = leaves made present in
     record {
       size = refl;
-      follow = refl;
+      follow = sym (fresh_follow made);
       good = tt;
       fits = record {
         size = refl;

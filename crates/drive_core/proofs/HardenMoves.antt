@@ -1,5 +1,7 @@
 -- A turn that hardens a block moves the parts of a drive.
 use Rattle.std.proofs.Common.{◌≡◌, ℕ, ◌<◌, ◌^◌, true, false, List, [], ◌∷◌, ◌++◌, Option, Some, None, refl, sym, ap, ◌∙◌, subst, append-nil}
+use Rattle.std.proofs.lemmas.Bool.{true≢false}
+use Rattle.std.proofs.lemmas.List.Elements.{All-head}
 use Rattle.std.proofs.lemmas.List.Sums.{fold-append}
 use Rattle.disk_base.specs.declared.address.Lba.{Lba}
 use Rattle.disk_base.specs.declared.address.Psn.{Psn}
@@ -42,7 +44,6 @@ use Rattle.sector_store.specs.Caching.{Hardens}
 use Rattle.drive_core.specs.Moves.{Moves}
 use Rattle.drive_scene.proofs.Tables.{put_at-own, put_at-other, within_map}
 use Rattle.drive_scene.specs.Half.{Half}
-use Rattle.drive_scene.proofs.Halves.{tries_wrote}
 use Rattle.drive_scene.proofs.Apart.{HoldsAlone}
 use Rattle.drive_scene.proofs.Elsewhere.{after_half, after_end, reached-end}
 use Rattle.drive_core.proofs.Fitting.{fits_on, fits_end}
@@ -53,8 +54,14 @@ use Rattle.drive_scene.proofs.HardenTurns.{hardened-newest, dirty-newest, unstra
 use Rattle.drive_core.proofs.HardenParts.{IsAfterHarden, cached_hardened}
 use Rattle.drive_core.proofs.Windows.{room_of}
 use Rattle.drive_core.proofs.Written.{uncounted}
-use Rattle.drive_scene.specs.GoodTurn.{WritesBlockData}
+use Rattle.drive_scene.specs.GoodTurn.{AreTriesShown, WritesBlockData}
 use Rattle.std.specs.Prelude.{All}
+
+-- where a block is written none is tried, and its harden is an entry
+tries_wrote : (s : Scene) (c : ℕ) (es : List Entry) (payload : Payload) → All (WritesBlockData s.map es) (Wrote payload ∷ [])
+    → AreTriesShown s (Work c) es (Wrote payload ∷ [])
+tries_wrote s c [] payload all = absurd (true≢false (sym (All-head (WritesBlockData s.map []) (Wrote payload) [] all).1))
+tries_wrote s c (e ∷ es) payload all = refl
 
 -- a write leaves the power and the write faults as they were
 pub off-written : (ops : List Op) (payload : Payload) → is_off (ops ++ Wrote payload ∷ []) ≡ is_off ops

@@ -36,6 +36,7 @@ pub mod Holding
 pub mod Claimed
 pub mod Throughs
 pub mod StartTurns
+pub mod StartDeeds
 pub mod StartPages
 pub mod ModeTurns
 pub mod Advancing

@@ -1,5 +1,5 @@
 -- The turn of a MODE SELECT that changes mode values: it starts, changes them and ends.
-use Rattle.std.proofs.Common.{◌≡◌, ◌≢◌, ℕ, zero, suc, ◌-◌, ◌≤◌, length, Bool, true, false, cond, ◌==◌, List, [], ◌∷◌, Option, Some, None, refl, sym, ap, ◌∙◌, subst, arith}
+use Rattle.std.proofs.Common.{◌≡◌, ℕ, zero, suc, ◌-◌, ◌≤◌, length, Bool, true, false, cond, ◌==◌, List, [], ◌∷◌, Option, Some, None, refl, sym, ap, ◌∙◌, subst}
 use Rattle.std.specs.Prelude.{slice_index, Result, Ok, Err}
 use Rattle.std.specs.Option.{option_and_then, is_some}
 use Rattle.std.proofs.lemmas.Bool.{eq-eqb, leb-true, and_parts}
@@ -15,7 +15,7 @@ use Rattle.mode_pages.specs.ModeSelect.{and_then, front_page, known_page_taken, 
 use Rattle.task_set.specs.declared.member.Member.{Member}
 use Rattle.task_set.specs.Members.{member_of, with_started, without}
 use Rattle.cdb_reader.specs.declared.plan.Plan.{Plan}
-use Rattle.cdb_reader.specs.declared.plan.Plan.TheVariants.{Ending, Changing, Over}
+use Rattle.cdb_reader.specs.declared.plan.Plan.TheVariants.{Ending, Changing}
 use Rattle.cdb_reader.specs.declared.plan.Deed.TheVariants as deed
 use Rattle.cdb_reader.specs.Plan.{next}
 use Rattle.cdb_reader.specs.Replies.{good}
@@ -30,7 +30,6 @@ use Rattle.block_machine.specs.Plans.{first_plan, plan_unless_refused}
 use Rattle.block_machine.specs.Settings.{parameter_list, same_flag, same_settings, settings_made}
 use Rattle.block_machine.specs.State.{State, Duty, initiator_of, owed_by}
 use Rattle.block_machine.specs.Steps.{begun, entry_after, with_owed}
-use Rattle.block_machine.specs.Turns.{owes_nothing_now}
 use Rattle.block_machine.proofs.Booleans.{and_both}
 use Rattle.history_replay.specs.declared.known.Known.{Known}
 use Rattle.history_replay.specs.Known.{duty_of, with_set}
@@ -39,20 +38,16 @@ use Rattle.drive_scene.specs.declared.answer.Ended as told_end
 use Rattle.drive_core.specs.declared.server.Server.{Server}
 use Rattle.drive_core.specs.Accepting.{Drops}
 use Rattle.drive_scene.specs.Ending.{ended_of_member}
-use Rattle.drive_scene.specs.Evidence.{IsEndShown}
 use Rattle.drive_core.specs.Fits.{Fits}
-use Rattle.drive_scene.specs.Scene.{beat, Scene, capacity, scene_after}
+use Rattle.drive_scene.specs.Scene.{Scene, capacity}
 use Rattle.drive_scene.specs.Laws.{StillTurnsAreGood}
 use Rattle.drive_core.specs.Moves.{Moves}
 use Rattle.drive_core.specs.Starting.{IsSelected}
-use Rattle.drive_scene.proofs.Tables.{put_at-own, put_at-other}
-use Rattle.drive_scene.proofs.Keyed.{find-dropped_other}
-use Rattle.drive_scene.proofs.Elsewhere.{IsAlike}
-use Rattle.drive_scene.proofs.Halves.{end_lawful, over_owes}
-use Rattle.drive_scene.proofs.FirstPlans.{IsNoEnding, plan_unmet, same_reply-own}
-use Rattle.drive_core.proofs.Unmoved.{none_added, standing}
+use Rattle.drive_scene.proofs.Tables.{put_at-own}
+use Rattle.drive_scene.proofs.FirstPlans.{IsNoEnding, plan_unmet}
 use Rattle.drive_scene.proofs.GetTurns.{begun-duty}
-use Rattle.drive_core.proofs.StartTurns.{MayStart, IsBegun, plan_of_start, start_lawful, start-asks, start-owes, started_state, find-started_own, find-started_other, told-warned, waiting_told, waiting_then, windows, fits_ended, told_as_in}
+use Rattle.drive_core.proofs.StartTurns.{MayStart, IsBegun, plan_of_start, start-asks, start-owes, started_state, told-warned, waiting_told, waiting_then}
+use Rattle.drive_core.proofs.StartDeeds.{IsDeed, starts_and_does}
 
 -- a command whose plan is to change mode values meets no attention and isn't refused
 pub plan_changes : (capacity i : ℕ) (h : State) (code : ℕ) (asks given : Result Request Sense) (sent : DataOut) (plan : Plan)
@@ -181,32 +176,21 @@ module _ (s : Scene) (d e : Server) (c : ℕ) (made : Settings) (is : Changes s 
   duties_then : after.duties ≡ with_owed h.duties c (Some (Ending good))
   duties_then = ap (λ (o : Option Plan). with_owed h.duties c o) left
 
-  owes_then : owed_by after c ≡ Some (Ending good)
-  owes_then =
-      ap (λ (o : Option Member). option_and_then (λ (x : Member). (after.duties c).owes) o) (find-started_own c s.hist.set is.leaves.may.m is.leaves.may.is_in)
-      ∙ (ap (λ (f : ℕ → Duty). (f c).owes) duties_then ∙ ap (λ (x : Duty). x.owes) (put_at-own c _ h.duties))
-
-  end_is_lawful : entry_lawful (capacity s) (Work c) after (Ended c good) ≡ true
-  end_is_lawful = end_lawful (capacity s) after c (Ending good) Over good owes_then
-      (ap (λ (b : Bool). cond b (Some Over) None) (same_reply-own good)) refl
-
   -- all other initiators are to be told
   warned : after.waiting ≡ waiting_changed s d c
   warned =
       ap (λ (w : Waiting). after_mode_change (initiator_of h c) w) (waiting_then s c)
       ∙ sym (ap (λ (ms : List Member). after_mode_change (initiator_of (with_set (with_started ms c)) c) (waiting_told s c)) is.leaves.fits.tasks.set)
 
-  alike : (q : ℕ) → q ≢ c → IsAlike s (scene_after s (beat (Work c) (Started c ∷ Mode made ∷ Ended c good ∷ []) [])) q
-  alike q other = record {
-    size = refl;
-    map = refl;
-    member = find-dropped_other (λ (m : Member). m.task.c) c q (with_started s.hist.set c) other ∙ find-started_other c q s.hist.set other;
-    duty = put_at-other c q _ after.duties other ∙ (ap (λ (f : ℕ → Duty). f q) duties_then ∙ (put_at-other c q _ h.duties other
-        ∙ (put_at-other c q _ (begun s.hist (Work c)).duties other ∙ put_at-other c q _ s.hist.duties other)));
-    window = put_at-other c q _ s.windows other;
-    settings = put_at-other c q s.hist.settings s.settings other;
-    recovered = refl;
-    dirty = λ n holds. refl;
+  does : IsDeed s c (Mode made) good made (waiting_changed s d c)
+  does = record {
+    lawful = change_lawful;
+    shown = tt;
+    own = refl;
+    duties = duties_then;
+    modes = refl;
+    waits = warned;
+    quiet = (refl, refl, refl, refl, λ b. refl, refl, refl, refl);
   }
 
   -- it starts, changes them and ends
@@ -214,34 +198,4 @@ module _ (s : Scene) (d e : Server) (c : ℕ) (made : Settings) (is : Changes s 
       → Drops d.commands.items e.commands.items c → entries ≡ Started c ∷ Mode made ∷ Ended c good ∷ []
       → told ≡ ended_of_member (member_of (with_started d.set c) c) good → Moves (Work c) s d e entries told
   starts_and_changes entries told set_is drops entries_are told_is =
-      let t : Scene = scene_after s (beat (Work c) (Started c ∷ Mode made ∷ Ended c good ∷ []) []) in
-      let M : List Entry → Option told_end.Ended → Type 0 = λ es o. Moves (Work c) s d e es o in
-      let moves : M (Started c ∷ Mode made ∷ Ended c good ∷ []) (ended_of_member (member_of s.hist.set c) good) = record {
-        ops = [];
-        added = none_added s d e is.leaves.fits is.leaves.store;
-        good = still s (Work c) (Started c ∷ Mode made ∷ Ended c good ∷ []) (standing s d e is.leaves.fits is.leaves.store) (record {
-          tasks = and_both _ _ (and_both true _ refl (and_both _ _ (start_lawful s d c is.leaves.may) (and_both _ _ change_lawful (and_both _ true end_is_lawful refl))))
-              (ap owes_nothing_now (over_owes (capacity s) after c good));
-          blocks = refl;
-          shown = (
-            tt,
-            (
-              tt,
-              (subst (λ (o : Option Plan). IsEndShown s (beat (Work c) (Started c ∷ Mode made ∷ Ended c good ∷ []) []) c o good) (sym owes_then) tt, tt),
-            ),
-          );
-          step = (refl, refl);
-          on_none = λ b. refl;
-          on_one = refl;
-          own = and_both _ _ (eq-eqb c c refl) (and_both _ _ refl (and_both _ _ (eq-eqb c c refl) refl));
-          order = refl;
-          windows = windows s d e c is.leaves (Started c ∷ Mode made ∷ Ended c good ∷ []);
-          unchanged = refl;
-        });
-        fits = fits_ended s d e c is.leaves made after.waiting refl warned (Started c ∷ Mode made ∷ Ended c good ∷ []) t.hist.duties t.windows t.settings t.recovered alike
-            (windows s d e c is.leaves (Started c ∷ Mode made ∷ Ended c good ∷ [])) set_is drops;
-        counted = omega (arith, is.leaves.arrived);
-        ended = refl;
-      } in
-      subst (λ (o : Option told_end.Ended). M entries o) (sym (told_as_in s d e c is.leaves good told told_is))
-      (subst (λ (es : List Entry). M es (ended_of_member (member_of s.hist.set c) good)) (sym entries_are) moves)
+      starts_and_does s d e c (Mode made) good is.leaves does still entries told set_is drops entries_are told_is

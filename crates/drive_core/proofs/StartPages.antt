@@ -1,5 +1,5 @@
 -- The turn of a command that starts, gives data and ends.
-use Rattle.std.proofs.Common.{◌≡◌, ◌≢◌, ℕ, Bool, true, false, cond, List, [], ◌∷◌, take, Option, Some, None, refl, sym, ap, ◌∙◌, subst, arith}
+use Rattle.std.proofs.Common.{◌≡◌, ℕ, Bool, true, false, cond, List, [], ◌∷◌, take, Option, Some, None, refl, sym, ap, ◌∙◌, subst}
 use Rattle.std.specs.Prelude.{Result, Ok}
 use Rattle.std.specs.Option.{option_and_then, is_some}
 use Rattle.std.proofs.lemmas.Bool.{eq-eqb}
@@ -7,13 +7,12 @@ use Rattle.std.proofs.lemmas.Slice.Eq.{bytes_eq-Decides}
 use Rattle.disk_base.specs.declared.command.DataOut.{DataOut}
 use Rattle.sense_data.specs.declared.sense.Sense.{Sense}
 use Rattle.sense_data.specs.declared.reply.Reply.{Reply}
-use Rattle.task_set.specs.declared.member.Member.{Member}
 use Rattle.task_set.specs.Members.{member_of, with_started, without}
 use Rattle.geometry_map.specs.DefectMap.{DefectMap, IsValidMap}
 use Rattle.defect_lists.specs.declared.reply.DefectRequest.{DefectRequest}
 use Rattle.defect_lists.specs.DefectData.{defect_data}
 use Rattle.cdb_reader.specs.declared.plan.Plan.{Plan}
-use Rattle.cdb_reader.specs.declared.plan.Plan.TheVariants.{Ending, Answering, Over}
+use Rattle.cdb_reader.specs.declared.plan.Plan.TheVariants.{Ending, Answering}
 use Rattle.cdb_reader.specs.declared.plan.Deed.TheVariants as deed
 use Rattle.cdb_reader.specs.Plan.{next}
 use Rattle.cdb_reader.specs.Request.{Request, ReadDefectData}
@@ -24,28 +23,23 @@ use Rattle.block_machine.specs.Deeds.{Done, done, owed_after, page_done}
 use Rattle.block_machine.specs.DriveOnly.{defect_heading}
 use Rattle.block_machine.specs.Entries.{entry_lawful}
 use Rattle.block_machine.specs.Plans.{plan_unless_refused, defect_reply}
-use Rattle.block_machine.specs.State.{State, Duty, initiator_of, owed_by}
-use Rattle.block_machine.specs.Steps.{begun, duties_done, entry_after, with_owed}
-use Rattle.block_machine.specs.Turns.{owes_nothing_now}
+use Rattle.block_machine.specs.State.{State, initiator_of}
+use Rattle.block_machine.specs.Steps.{duties_done, entry_after, with_owed}
 use Rattle.block_machine.proofs.Booleans.{and_both}
 use Rattle.drive_scene.specs.declared.answer.Ended as told_end
 use Rattle.drive_core.specs.declared.server.Server.{Server}
 use Rattle.drive_core.specs.declared.starting.First.TheVariants as first_variant
 use Rattle.drive_core.specs.Accepting.{Drops}
 use Rattle.drive_scene.specs.Ending.{ended_of_member}
-use Rattle.drive_scene.specs.Evidence.{IsEndShown, page_of}
-use Rattle.drive_scene.specs.Scene.{beat, Scene, capacity, scene_after}
+use Rattle.drive_scene.specs.Evidence.{page_of}
+use Rattle.drive_scene.specs.Scene.{Scene, capacity}
 use Rattle.drive_scene.specs.Laws.{StillTurnsAreGood}
 use Rattle.drive_core.specs.Moves.{Moves}
 use Rattle.drive_core.specs.Starting.{IsFirst}
-use Rattle.drive_scene.proofs.Tables.{put_at-own, put_at-other}
-use Rattle.drive_scene.proofs.Keyed.{find-dropped_other}
-use Rattle.drive_scene.proofs.Elsewhere.{IsAlike}
-use Rattle.drive_scene.proofs.Halves.{end_lawful, over_owes}
 use Rattle.drive_scene.proofs.DefectPages.{defect_data-heading, defect_data-length}
-use Rattle.drive_scene.proofs.FirstPlans.{IsNoEnding, plan_there, plan_unmet, same_reply-own}
-use Rattle.drive_core.proofs.Unmoved.{none_added, standing}
-use Rattle.drive_core.proofs.StartTurns.{BeginsWithPage, begins_with_page, IsStartOf, plan_of_start, start_lawful, start-asks, start-owes, started_state, find-started_own, find-started_other, waiting_then, windows, fits_ended, told_as_in}
+use Rattle.drive_scene.proofs.FirstPlans.{IsNoEnding, plan_there, plan_unmet}
+use Rattle.drive_core.proofs.StartTurns.{BeginsWithPage, begins_with_page, IsStartOf, plan_of_start, waiting_told, start-asks, start-owes, started_state, waiting_then}
+use Rattle.drive_core.proofs.StartDeeds.{IsDeed, starts_and_does}
 
 -- the data that a command gives are what its plan owes, and what the drive's map has
 pub record IsOwedPage (m : DefectMap) (asks : Result Request Sense) (c : ℕ) (planned bytes : List ℕ) : Type 0 where
@@ -117,26 +111,15 @@ module _ (s : Scene) (d e : Server) (c : ℕ) (bytes : List ℕ) (reply : Reply)
   duties_then : after.duties ≡ with_owed h.duties c (Some (Ending reply))
   duties_then = ap (duties_done h) page_is ∙ ap (λ (o : Option Plan). with_owed h.duties c o) left
 
-  owes_then : owed_by after c ≡ Some (Ending reply)
-  owes_then =
-      ap (λ (o : Option Member). option_and_then (λ (x : Member). (after.duties c).owes) o) (find-started_own c s.hist.set is.may.m is.may.is_in)
-      ∙ (ap (λ (f : ℕ → Duty). (f c).owes) duties_then ∙ ap (λ (x : Duty). x.owes) (put_at-own c _ h.duties))
-
-  end_is_lawful : entry_lawful (capacity s) (Work c) after (Ended c reply) ≡ true
-  end_is_lawful = end_lawful (capacity s) after c (Ending reply) Over reply owes_then
-      (ap (λ (b : Bool). cond b (Some Over) None) (same_reply-own reply)) refl
-
-  alike : (q : ℕ) → q ≢ c → IsAlike s (scene_after s (beat (Work c) (Started c ∷ Page c bytes ∷ Ended c reply ∷ []) [])) q
-  alike q other = record {
-    size = refl;
-    map = refl;
-    member = find-dropped_other (λ (m : Member). m.task.c) c q (with_started s.hist.set c) other ∙ find-started_other c q s.hist.set other;
-    duty = put_at-other c q _ after.duties other ∙ (ap (λ (f : ℕ → Duty). f q) duties_then ∙ (put_at-other c q _ h.duties other
-        ∙ (put_at-other c q _ (begun s.hist (Work c)).duties other ∙ put_at-other c q _ s.hist.duties other)));
-    window = put_at-other c q _ s.windows other;
-    settings = put_at-other c q s.hist.settings s.settings other;
-    recovered = refl;
-    dirty = λ n holds. refl;
+  does : IsDeed s c (Page c bytes) reply d.known.settings (waiting_told s c)
+  does = record {
+    lawful = page_lawful;
+    shown = gives.page.shown ∙ ap (λ (x : Result Request Sense). page_of s.map x bytes) (sym (start-asks s c));
+    own = eq-eqb c c refl;
+    duties = duties_then;
+    modes = sym is.fits.known.settings;
+    waits = waiting_then s c;
+    quiet = (refl, refl, refl, refl, λ b. refl, refl, refl, refl);
   }
 
   -- it starts, gives them and ends
@@ -144,34 +127,4 @@ module _ (s : Scene) (d e : Server) (c : ℕ) (bytes : List ℕ) (reply : Reply)
       → Drops d.commands.items e.commands.items c → entries ≡ Started c ∷ Page c bytes ∷ Ended c reply ∷ []
       → told ≡ ended_of_member (member_of (with_started d.set c) c) reply → Moves (Work c) s d e entries told
   starts_and_gives entries told set_is drops entries_are told_is =
-      let t : Scene = scene_after s (beat (Work c) (Started c ∷ Page c bytes ∷ Ended c reply ∷ []) []) in
-      let M : List Entry → Option told_end.Ended → Type 0 = λ es o. Moves (Work c) s d e es o in
-      let moves : M (Started c ∷ Page c bytes ∷ Ended c reply ∷ []) (ended_of_member (member_of s.hist.set c) reply) = record {
-        ops = [];
-        added = none_added s d e is.fits is.store;
-        good = still s (Work c) (Started c ∷ Page c bytes ∷ Ended c reply ∷ []) (standing s d e is.fits is.store) (record {
-          tasks = and_both _ _ (and_both true _ refl (and_both _ _ (start_lawful s d c is.may) (and_both _ _ page_lawful (and_both _ true end_is_lawful refl))))
-              (ap owes_nothing_now (over_owes (capacity s) after c reply));
-          blocks = refl;
-          shown = (
-            tt,
-            (
-              gives.page.shown ∙ ap (λ (x : Result Request Sense). page_of s.map x bytes) (sym (start-asks s c)),
-              (subst (λ (o : Option Plan). IsEndShown s (beat (Work c) (Started c ∷ Page c bytes ∷ Ended c reply ∷ []) []) c o reply) (sym owes_then) tt, tt),
-            ),
-          );
-          step = (refl, refl);
-          on_none = λ b. refl;
-          on_one = refl;
-          own = and_both _ _ (eq-eqb c c refl) (and_both _ _ (eq-eqb c c refl) (and_both _ _ (eq-eqb c c refl) refl));
-          order = refl;
-          windows = windows s d e c is (Started c ∷ Page c bytes ∷ Ended c reply ∷ []);
-          unchanged = refl;
-        });
-        fits = fits_ended s d e c is t.hist.settings t.hist.waiting (sym is.fits.known.settings) (waiting_then s c) (Started c ∷ Page c bytes ∷ Ended c reply ∷ [])
-            t.hist.duties t.windows t.settings t.recovered alike (windows s d e c is (Started c ∷ Page c bytes ∷ Ended c reply ∷ [])) set_is drops;
-        counted = omega (arith, is.arrived);
-        ended = refl;
-      } in
-      subst (λ (o : Option told_end.Ended). M entries o) (sym (told_as_in s d e c is reply told told_is))
-      (subst (λ (es : List Entry). M es (ended_of_member (member_of s.hist.set c) reply)) (sym entries_are) moves)
+      starts_and_does s d e c (Page c bytes) reply is does still entries told set_is drops entries_are told_is

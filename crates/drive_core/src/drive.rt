@@ -1,8 +1,9 @@
 //! The drive and its calls.
-ghost use Rattle.std.specs.Prelude.{◌≡◌, ◌↔◌, [], false, IsTrue, IfOk, OnErr, MatchOption, MatchResult};
+ghost use Rattle.std.specs.Prelude.{◌≡◌, ◌↔◌, [], false, length, IsTrue, IfOk, OnErr, MatchOption, MatchResult};
 ghost use Rattle.platter_model.specs.TrueLog.{is_off};
 ghost use Rattle.geometry_map.specs.DefectMap.{IsPrimaryList};
-ghost use Rattle.drive_scene.specs.Run.{IsGoodRun, run_at_start, scene_of};
+ghost use Rattle.drive_scene.specs.Scene.{factory_ops};
+ghost use Rattle.drive_scene.specs.Run.{IsGoodRun, run_at_start, behind_factory, scene_of};
 ghost use Rattle.drive_scene.specs.Able.{refusal, needs_power, pick_of};
 ghost use Rattle.drive_scene.specs.Turning.{AddsTurn, coming_after};
 ghost use Rattle.drive_scene.specs.Progress.{SomebodyIsAble};
@@ -101,14 +102,14 @@ impl Drive {
         }
         let entries_max = entries_at_most(&event);
         let mut entries = reserve(self.alloc, &mut self.server, &mut self.turns, entries_max)?;
-        let from = self.server.store.platter().ops().len() as u64;
+        let from = ops_done(&self.made, &self.server);
         let coming = coming_after(self.coming, &event);
         let made = make_turn(self.alloc, &mut self.server, event, &mut entries)?;
         self.coming = coming;
         self.turns.push_reserved(Turn {
             label: made.label,
             ops_from: from,
-            ops_to: self.server.store.platter().ops().len() as u64,
+            ops_to: ops_done(&self.made, &self.server),
             entries: sealed(entries),
         });
         Ok(TurnAnswer::Done {
@@ -185,6 +186,13 @@ impl Drive {
         &self.server.store
     }
 
+    /// How many operations the factory did: turns count theirs from behind these.
+    pub fn factory_count(&self) -> u64
+        ensures { result ≡ length (factory_ops self.now.made) }
+    {
+        self.made.factory_count()
+    }
+
     /// All turns, and all operations of the platter, the factory's first.
     pub fn into_parts(self) -> (Turns, Ops)
         ensures turns { result.0 ≡ self.turns }
@@ -222,6 +230,15 @@ fn known_at_start(alloc: Global, capacity: u64) -> Result<Known, NoMemory>
             log: ScanLog::new(alloc)?,
         },
     })
+}
+
+// How many operations the platter did since the factory.
+#[tactic(auto, unfolding(drive_scene::specs::Run::behind_factory))]
+fn ops_done(made: &Made, server: &Server) -> u64
+    ensures { result ≡ length (behind_factory made.now server.now.store.platter.ops) }
+{
+    let all = server.store.platter().ops().len() as u64;
+    all.saturating_sub(made.factory_count())
 }
 
 // The entries of a turn that is over. They stay for the whole run, without room for more.

@@ -17,8 +17,6 @@ mod starting;
 mod storing;
 mod syncing;
 mod taking;
-#[cfg(test)]
-mod turn_tests;
 mod turning;
 mod worldly;
 

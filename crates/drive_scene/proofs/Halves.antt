@@ -3,11 +3,8 @@ use Rattle.std.proofs.Common.{◌≡◌, ℕ, ◌≤◌, Bool, true, false, not,
 use Rattle.std.specs.Prelude.{◌&&◌, ◌||◌, All}
 use Rattle.std.specs.List.{list_any}
 use Rattle.std.specs.Option.{option_and_then, is_some}
-use Rattle.std.proofs.lemmas.Bool.{eq-eqb, ne_eqb, or_right, true≢false}
+use Rattle.std.proofs.lemmas.Bool.{eq-eqb, ne_eqb, or_right}
 use Rattle.std.proofs.lemmas.List.{append-nil}
-use Rattle.std.proofs.lemmas.List.Elements.{All-head}
-use Rattle.disk_base.specs.declared.payload.Payload.{Payload}
-use Rattle.platter_model.specs.declared.op.Op.TheVariants.{Wrote}
 use Rattle.std.proofs.lemmas.List.Sums.{fold_push}
 use Rattle.std.proofs.lemmas.List.Folds.{list_any-append, list_all-append}
 use Rattle.disk_base.specs.Along.{Along, all_along}
@@ -33,7 +30,7 @@ use Rattle.block_machine.proofs.Booleans.{and_both}
 use Rattle.geometry_map.specs.DefectMap.{place_of}
 use Rattle.drive_scene.specs.Scene.{Scene, capacity, scene_after, beat}
 use Rattle.drive_scene.specs.Evidence.{Shows, IsEndShown}
-use Rattle.drive_scene.specs.GoodTurn.{GoodTurn, IsStood, AreTriesShown, WritesBlockData, is_on, is_about, is_at_sector, may_follow, rank, IsMapped}
+use Rattle.drive_scene.specs.GoodTurn.{GoodTurn, IsStood, WritesBlockData, is_on, is_about, is_at_sector, may_follow, rank, IsMapped}
 use Rattle.drive_scene.proofs.Tables.{Along-push}
 use Rattle.drive_scene.proofs.Keyed.{find-dropped_own}
 use Rattle.drive_scene.proofs.Windows.{windows_work}
@@ -53,12 +50,6 @@ three a b c ai bi ci = and_both (a && b) c (and_both a b ai bi) ci
 some_of : {X Y : Type 0} (f : X → Option Y) (o : Option X) (y : Y) → option_and_then f o ≡ Some y → is_some o ≡ true
 some_of f None y is = absurd (cc)
 some_of f (Some x) y is = refl
-
--- where a block is written none is tried, and its harden is an entry
-pub tries_wrote : (s : Scene) (c : ℕ) (es : List Entry) (payload : Payload) → All (WritesBlockData s.map es) (Wrote payload ∷ [])
-    → AreTriesShown s (Work c) es (Wrote payload ∷ [])
-tries_wrote s c [] payload all = absurd (true≢false (sym (All-head (WritesBlockData s.map []) (Wrote payload) [] all).1))
-tries_wrote s c (e ∷ es) payload all = refl
 
 -- the windows after it, with the entries of the half or more
 pub windows_then : (s : Scene) (c : ℕ) (ops : List Op) (entries : List Entry) (h : State) (plan : Plan) → IsReady s c → Half s c ops entries h plan

@@ -19,3 +19,4 @@ pub mod DefectPages
 pub mod Pushes
 pub mod AtStart
 pub mod TurnExamples
+pub mod RunExamples

@@ -51,6 +51,11 @@ pub follow_push : (from to end : ℕ) (turns : List Turn) (t : Turn) → FollowF
 follow_push from to end [] t is starts ends grows = (starts ∙ sym is, omega arith, ends)
 follow_push from to end (u ∷ turns) t is starts ends grows = (is.0, is.1, follow_push u.ops_to to end turns t is.2 starts ends grows)
 
+-- turns take no operation away
+pub ops_grow : (s : Scene) (turns : List Beat) → length s.ops ≤ length (fold scene_after s turns).ops
+ops_grow s [] = omega arith
+ops_grow s (t ∷ turns) = let rest = ops_grow (scene_after s t) turns in omega (arith, rest, length-append s.ops t.ops)
+
 pub map_stays : MapsStay
 map_stays s [] = (refl, refl)
 map_stays s (t ∷ turns) = map_stays (scene_after s t) turns

@@ -114,6 +114,7 @@ fn run_of(alloc: Global, report: &[u8]) -> Result<Run> {
         script: read_script(alloc, b"")?,
         turns,
         ops: operations(alloc, count)?,
+        factory_count: 0,
     })
 }
 

@@ -19,8 +19,6 @@ mod strays;
 mod summary;
 mod summary_reading;
 mod tally;
-#[cfg(test)]
-mod tests;
 mod turn;
 mod turn_reading;
 mod words;

@@ -35,8 +35,9 @@ use Rattle.drive_scene.specs.GoodTurn.{GoodTurn}
 use Rattle.drive_scene.specs.Evidence.{FoundByStages, window_now, settings_now}
 use Rattle.sector_store.specs.Shapes.{try_of}
 use Rattle.drive_scene.specs.Laws.{MapsStay}
+use Rattle.drive_scene.specs.Run.{beats_of}
 use Rattle.script_runner.specs.Laws.{BadReadsAreShown}
-use Rattle.script_runner.specs.Run.{beats_of, drive_run}
+use Rattle.script_runner.specs.Run.{drive_run}
 use Rattle.script_runner.specs.Script.{made_for}
 use Rattle.script_runner.proofs.OwnData.{IsOwn, WritesOwn, own_meant, own_written}
 use Rattle.script_runner.proofs.RunLaws.{ops_begin, none_before, along_at, gets_are_shown}

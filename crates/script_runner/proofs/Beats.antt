@@ -1,5 +1,5 @@
 -- The turns of a drive with their own operations, and one turn more.
-use Rattle.std.proofs.Common.{◌≡◌, ◌∙◌, ap, subst, refl, ℕ, ◌+◌, ◌-◌, ◌≤◌, List, [], ◌∷◌, ◌++◌, map, length, take, drop, arith, Some}
+use Rattle.std.proofs.Common.{◌≡◌, ◌∙◌, ap, sym, subst, refl, ℕ, ◌+◌, ◌-◌, ◌≤◌, List, [], ◌∷◌, ◌++◌, map, length, take, drop, arith, length-append, Some}
 use Rattle.std.specs.Prelude.{fold, slice_range}
 use Rattle.std.proofs.lemmas.List.{map-append, take-append-le, drop-append-le, length-drop, length_push}
 use Rattle.std.proofs.lemmas.List.Sums.{fold-append}
@@ -10,10 +10,10 @@ use Rattle.drive_scene.specs.declared.event.Event.{Event}
 use Rattle.drive_scene.specs.Scene.{Beat, scene_after, scene_at_start, factory_ops}
 use Rattle.drive_scene.specs.GoodTurn.{GoodTurn}
 use Rattle.drive_scene.specs.declared.made.Made.{Made}
-use Rattle.drive_scene.specs.Run.{Run, FollowFrom, beat_of, scene_of}
+use Rattle.drive_scene.specs.Run.{Run, FollowFrom, beat_of, behind_factory, scene_of, beats_of}
 use Rattle.drive_scene.specs.Turning.{label_of, arrives_as, BeginsWith}
-use Rattle.script_runner.specs.Run.{beats_of}
 use Rattle.script_runner.specs.Phasing.{GoesOn, MakesTurn}
+use Rattle.script_runner.proofs.RunLaws.{ops_begin}
 
 module _ {S T : Type 0} (step : S → T → S) (P : S → T → Type 0) where
   -- the last of some items, by a rule along all of them
@@ -27,7 +27,7 @@ module _ {S T : Type 0} (step : S → T → S) (P : S → T → Type 0) where
   along_more s (x ∷ xs) y all last = (all.0, along_more (step s x) xs y all.1 last)
 
 -- the operations of turns that follow each other go forward
-forward : (from : ℕ) (turns : List Turn) (to : ℕ) → FollowFrom from turns to → from ≤ to
+pub forward : (from : ℕ) (turns : List Turn) (to : ℕ) → FollowFrom from turns to → from ≤ to
 forward from [] to h = omega (arith, h)
 forward from (t ∷ turns) to h = let later = forward t.ops_to turns to h.2 in omega (arith, h.1, later)
 
@@ -68,21 +68,36 @@ pub scene_next : (old new : Run) (t : Beat) → GoesOn old new t → scene_of ne
 scene_next old new t goes = scene_on old new (t ∷ []) goes.beats goes.made
 
 module _ (old : Run) (e : Event) (new : Run) (made : MakesTurn old e new) where
-  one_more : beats_of new ≡ beats_of old ++ beat_of new.ops made.adds.turn ∷ []
-  one_more =
-      ap (map (beat_of new.ops)) made.adds.turns ∙ map-append (beat_of new.ops) old.turns (made.adds.turn ∷ [])
-      ∙ ap (λ (bs : List Beat). bs ++ beat_of new.ops made.adds.turn ∷ []) (ap (λ (os : List Op). map (beat_of os) old.turns) made.adds.added
-      ∙ same_beats old.ops made.adds.ops (length (factory_ops old.made)) old.turns (length old.ops) made.before.follow (omega arith))
+  abbrev own_before : List Op
+  own_before = behind_factory old.made old.ops
 
-  is_good : GoodTurn (scene_of old) (beat_of new.ops made.adds.turn)
+  abbrev own_after : List Op
+  own_after = behind_factory new.made new.ops
+
+  -- the turn's operations come behind those of before
+  own_more : own_after ≡ own_before ++ made.adds.ops
+  unfolding behind_factory
+  own_more =
+      let more = ops_begin (scene_at_start old.made) (beats_of old) in
+      let first : List Op = factory_ops old.made in
+      let all : length old.ops ≡ length first + length more.0 = ap length (sym made.before.own ∙ more.1) ∙ length-append first more.0 in
+      (λ i. behind_factory (made.adds.made i) (made.adds.added i)) ∙ drop-append-le (length first) old.ops made.adds.ops (omega (arith, all))
+
+  one_more : beats_of new ≡ beats_of old ++ beat_of own_after made.adds.turn ∷ []
+  one_more =
+      ap (map (beat_of own_after)) made.adds.turns ∙ map-append (beat_of own_after) old.turns (made.adds.turn ∷ [])
+      ∙ ap (λ (bs : List Beat). bs ++ beat_of own_after made.adds.turn ∷ []) (ap (λ (os : List Op). map (beat_of os) old.turns) own_more
+      ∙ same_beats own_before made.adds.ops 0 old.turns (length own_before) made.before.follow (omega arith))
+
+  is_good : GoodTurn (scene_of old) (beat_of own_after made.adds.turn)
   is_good =
       let from_made = subst (λ (m : Made). Along scene_after GoodTurn (scene_at_start m) (beats_of new)) made.adds.made made.after.good in
       let all = subst (λ (z : List Beat). Along scene_after GoodTurn (scene_at_start old.made) z) one_more from_made in
-      along_last scene_after GoodTurn (scene_at_start old.made) (beats_of old) (beat_of new.ops made.adds.turn) all
+      along_last scene_after GoodTurn (scene_at_start old.made) (beats_of old) (beat_of own_after made.adds.turn) all
 
   pub next_turn : NextTurn old e new
   next_turn = record {
-    turn = beat_of new.ops made.adds.turn;
+    turn = beat_of own_after made.adds.turn;
     goes = record { beats = one_more; made = made.adds.made };
     good = is_good;
     label = made.adds.label;

@@ -1,7 +1,8 @@
 -- What the laws speak of happens: in a history that was worked out by hand the premise of each is met.
-use Rattle.std.proofs.Common.{◌≡◌, true, List, [], ◌∷◌, ◌++◌, refl, arith}
+use Rattle.std.proofs.Common.{◌≡◌, true, List, [], ◌∷◌, ◌++◌, pos, refl, arith}
 use Rattle.std.specs.Prelude.{IsTrue, ◌+◌, ◌<◌, ◌≤◌, not}
 use Rattle.std.specs.List.{list_all}
+use Rattle.std.proofs.lemmas.List.Elements.{All-nil, All-cons}
 use Rattle.disk_base.specs.declared.command.Attribute.TheVariants.{Simple}
 use Rattle.disk_base.specs.declared.command.DataOut.TheVariants.{Nothing, Fill}
 use Rattle.cdb_reader.specs.Operation.{operation_of}
@@ -10,9 +11,14 @@ use Rattle.cdb_reader.specs.Replies as replies
 use Rattle.block_machine.specs.declared.entry.Entry.{Entry}
 use Rattle.block_machine.specs.declared.entry.Entry.TheVariants.{Arrived, Started, Cut}
 use Rattle.block_machine.specs.declared.entry.Recovered.TheVariants.{Ready}
+use Rattle.block_machine.specs.declared.turn.Label.TheVariants.{Work}
 use Rattle.block_machine.specs.declared.turn.Turn.{Turn}
 use Rattle.block_machine.specs.History.{legal_from, entries_of}
 use Rattle.block_machine.specs.Laws.{NoneRenews, AsksToRead, AsksToForce, AsksToSync, is_cut, is_end_of, succeeds, settings_left}
+use Rattle.report_text.specs.declared.shown.Shown.{Shown}
+use Rattle.report_text.specs.declared.shown.Shown.TheVariants.{Fetched as FetchedAt}
+use Rattle.report_text.specs.Proper.{IsShown}
+use Rattle.report_text.specs.Laws.{AreShowable}
 use Rattle.block_machine.proofs.Building.{disk, told_drive, read, write, forced_write, sync, sends, comes, starts, works, get, put, hard, good, cut, power, told, reads, forces}
 
 -- a write into the cache, its sync, a read of the block, and a write with FUA of the next, as they come and as they are done
@@ -107,3 +113,21 @@ two_reads_after_a_cut = (
   refl,
   refl,
 )
+
+-- a turn that a report may show with its operation; a command's number has 32 bits
+fetched : Shown
+fetched = FetchedAt (record { 0 = 16 }) (record { reread = 0; offset = pos 0 })
+
+a_report : AreShowable (fetched ∷ []) (record { label = Work 3; ops_from = 0; ops_to = 1; entries = Started 3 ∷ [] } ∷ [])
+unfolding fetched
+a_report = (
+  record {
+    label = omega arith;
+    operations = All-cons IsShown fetched [] (omega arith, omega arith, omega arith) (All-nil IsShown);
+    entries = (omega arith, tt);
+  },
+  tt,
+)
+
+no_report : AreShowable [] (record { label = Work 4294967296; ops_from = 0; ops_to = 0; entries = [] } ∷ []) → ⊥
+no_report h = omega (arith, h.0.label)

@@ -19,6 +19,7 @@ pub mod Scripts
 pub mod Served
 pub mod RunLaws
 pub mod Running
+pub mod Reports
 pub mod OwnData
 pub mod BadReads
 pub mod LawExamples

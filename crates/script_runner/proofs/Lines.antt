@@ -13,7 +13,7 @@ use Rattle.drive_scene.specs.declared.event.Arrival.{Arrival as Sent}
 use Rattle.drive_scene.specs.declared.event.Arrival.TheVariants as arrival
 use Rattle.drive_scene.specs.Scene.{Scene, Beat, capacity, scene_after, scene_at_start}
 use Rattle.drive_scene.specs.declared.made.Made.{Made}
-use Rattle.drive_scene.specs.Run.{Run, scene_of, beat_of}
+use Rattle.drive_scene.specs.Run.{Run, scene_of, beats_of}
 use Rattle.drive_scene.specs.declared.answer.Waiting.{Waiting}
 use Rattle.drive_scene.specs.Able.{picked}
 use Rattle.drive_scene.specs.Turning.{initiator_of, label_of_pick}
@@ -27,7 +27,6 @@ use Rattle.script_runner.specs.CarriedOut.{CarriesPhase, CarryOut}
 use Rattle.script_runner.specs.Measure.{turns_left, turns_of_arrival, turns_of_line, turns_of_lines, turns_to_send, turns_of_phase, sum_upto}
 use Rattle.script_runner.specs.Phasing.{IsToSend, Carried, Happens}
 use Rattle.script_runner.specs.Leading.{Wait, IsAtRest, TakesLine, CarriesOut}
-use Rattle.script_runner.specs.Run.{beats_of}
 use Rattle.script_runner.proofs.Places.{put_same, put_other}
 use Rattle.script_runner.proofs.Each.{each_append}
 use Rattle.script_runner.proofs.Beats.{scene_on, scene_next}
@@ -42,7 +41,7 @@ same_blocks s [] = refl
 same_blocks s (t ∷ turns) = same_blocks (scene_after s t) turns
 
 pub blocks_of : (r : Run) → capacity (scene_of r) ≡ capacity_of r.made.size
-blocks_of r = same_blocks (scene_at_start r.made) (map (beat_of r.ops) r.turns)
+blocks_of r = same_blocks (scene_at_start r.made) (beats_of r)
 
 -- no command is in: none has turns left
 no_turns : (s : Scene) (c : ℕ) → s.hist.set ≡ [] → turns_left s c ≡ 0

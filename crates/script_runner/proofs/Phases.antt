@@ -16,14 +16,13 @@ use Rattle.drive_scene.specs.declared.answer.Waiting.{Waiting}
 use Rattle.drive_scene.specs.declared.answer.Pick.{Pick}
 use Rattle.drive_scene.specs.declared.answer.Pick.TheVariants.{Arrive, Work}
 use Rattle.drive_scene.specs.Scene.{Scene, Beat, scene_after}
-use Rattle.drive_scene.specs.Run.{Run, scene_of}
+use Rattle.drive_scene.specs.Run.{Run, scene_of, beats_of}
 use Rattle.drive_scene.specs.Able.{able, arrives, is_able, is_spent, picked, pick_of, nothing_waiting, turns_at_most}
 use Rattle.drive_scene.specs.Progress.{SomebodyIsAble}
 use Rattle.drive_scene.specs.Turning.{label_of_pick}
 use Rattle.script_runner.specs.Arrivals.{Sends, sends_of, arrived_by, arrived_in, left_of}
 use Rattle.script_runner.specs.Order.{drawn, number_of, order_after}
 use Rattle.script_runner.specs.Phase.{is_of_phase, waiting_of, InHand, one_turn_on, IsPicked}
-use Rattle.script_runner.specs.Run.{beats_of}
 use Rattle.script_runner.specs.Phasing.{TakesTurn, Carried}
 use Rattle.script_runner.specs.Measure.{turns_of_phase}
 use Rattle.script_runner.proofs.Beats.{along_more, scene_on}

@@ -25,11 +25,11 @@ use Rattle.task_set.specs.Members.{numbers}
 use Rattle.drive_scene.specs.Scene.{Scene, Beat, capacity, scene_after, scene_at_start}
 use Rattle.drive_scene.specs.Evidence.{Shows}
 use Rattle.drive_scene.specs.GoodTurn.{GoodTurn}
-use Rattle.drive_scene.specs.Run.{beat_of}
+use Rattle.drive_scene.specs.Run.{beat_of, behind_factory, beats_of}
 use Rattle.script_runner.specs.Order.{order_after}
 use Rattle.script_runner.specs.Phase.{ByOrder}
 use Rattle.script_runner.specs.CarriedOut.{CarryOut}
-use Rattle.script_runner.specs.Run.{beats_of, drive_run}
+use Rattle.script_runner.specs.Run.{drive_run}
 use Rattle.script_runner.specs.Script.{made_for}
 use Rattle.script_runner.specs.Laws.{OfGoodRuns, OfRunsWithoutStrays, AreLegal, AreTaskLegal, BeginningsAreLegal, NoneIsLeft, AllThatCameAreGone, GetsAreShown}
 
@@ -63,7 +63,7 @@ legal_along ops (t ∷ turns) s blocks is all none =
 
 pub runs_are_legal : OfRunsWithoutStrays AreLegal
 runs_are_legal order script turns ops good none =
-    legal_along ops turns (scene_at_start (made_for good.size script)) (capacity_of good.size) refl good.history.good (ap strays good.history.own ∙ none)
+    legal_along (behind_factory (made_for good.size script) ops) turns (scene_at_start (made_for good.size script)) (capacity_of good.size) refl good.history.good (ap strays good.history.own ∙ none)
 
 -- as far as commands go, turns are legal whatever was taken for another payload
 pub tasks_along : (ops : List Op) (turns : List Turn) (s : Scene) (blocks : ℕ) → capacity s ≡ blocks → Along scene_after GoodTurn s (map (beat_of ops) turns)
@@ -77,7 +77,7 @@ tasks_along ops (t ∷ turns) s blocks is all =
 
 pub runs_are_task_legal : OfGoodRuns AreTaskLegal
 runs_are_task_legal order script turns ops good =
-    tasks_along ops turns (scene_at_start (made_for good.size script)) (capacity_of good.size) refl good.history.good
+    tasks_along (behind_factory (made_for good.size script) ops) turns (scene_at_start (made_for good.size script)) (capacity_of good.size) refl good.history.good
 
 -- what holds of each legal history holds of each run without strays
 pub of_legal : (Fact : ℕ → List Turn → Type 0) → OfLegalHistories Fact → OfRunsWithoutStrays Fact
@@ -115,7 +115,7 @@ empty_at_end (Destage count ∷ lines) order s waiting turns out = absurd out
 pub none_is_left : OfGoodRuns NoneIsLeft
 none_is_left order script turns ops good =
     let start = scene_at_start (made_for good.size script) in
-    subst (λ (h : State). h.set ≡ []) (state_along ops turns start (capacity_of good.size) refl)
+    subst (λ (h : State). h.set ≡ []) (state_along (behind_factory (made_for good.size script) ops) turns start (capacity_of good.size) refl)
     (empty_at_end script.lines order start [] (beats_of (drive_run good.size script turns ops)) good.carried_out)
 
 -- a count of none more

@@ -7,12 +7,13 @@ use Rattle.script_text.specs.declared.script.Script.{Script}
 use Rattle.script_text.specs.Measures.{Measures}
 use Rattle.script_text.specs.Standing as text
 use Rattle.geometry_map.specs.Size.{capacity_of}
-use Rattle.drive_scene.specs.Scene.{Scene, Beat, scene_at_start, scene_after}
-use Rattle.drive_scene.specs.Run.{Run, IsGoodRun, beat_of, scene_of}
+use Rattle.drive_scene.specs.declared.made.Made.{Made}
+use Rattle.drive_scene.specs.Scene.{Scene, Beat, scene_at_start, scene_after, factory_ops}
+use Rattle.drive_scene.specs.Run.{Run, IsGoodRun, beat_of, behind_factory, scene_of, beats_of}
 use Rattle.script_runner.specs.CarriedOut.{CarryOut}
 use Rattle.script_runner.specs.Leading.{CarriesOut}
 use Rattle.script_runner.specs.Phase.{ByOrder}
-use Rattle.script_runner.specs.Run.{IsGood, beats_of, drive_run}
+use Rattle.script_runner.specs.Run.{IsGood, drive_run, factory_count_of}
 use Rattle.script_runner.specs.Script.{IsFresh, blocks_of, made_for}
 use Rattle.script_runner.specs.Measure.{turns_of_lines}
 use Rattle.std.specs.Prelude.{fold}
@@ -45,26 +46,31 @@ stood_behind s ops turns front more t is all =
     subst (λ (k : Scene). IsStood k.map k.ops k.hist.blocks) (sym last) turn.stands
 
 pub good_run : (order : Option ℕ) (script : Script) (start done : Run) (turns : List Turn) (ops : List Op) → IsFresh script start
-    → CarriesOut start order script.lines done → IsGoodRun done → turns ≡ done.turns → ops ≡ done.ops → IsGood order script turns ops
+    → CarriesOut start order script.lines done → IsGoodRun done → turns ≡ done.turns → ops ≡ done.ops
+    → (good : IsGood order script turns ops) × (factory_count_of good.size script ≡ length (factory_ops done.made))
 good_run order script start done turns ops fresh out good turns_are ops_are =
     let made : done.made ≡ made_for fresh.size script = out.made ∙ ap (λ (r : Run). r.made) fresh.is in
     let from : scene_of start ≡ scene_at_start (made_for fresh.size script) = ap scene_of fresh.is in
+    let counted : record { made = done.made; turns = done.turns; ops = done.ops; coming = 0 } ≡ drive_run fresh.size script turns ops =
+    (λ i. let r : Run = record { made = made i; turns = sym turns_are i; ops = sym ops_are i; coming = 0 } in r) in
     let own : out.own ≡ beats_of (drive_run fresh.size script turns ops) =
-    sym (out.beats ∙ ap (λ (bs : List Beat). bs ++ out.own) (ap beats_of fresh.is)) ∙ (λ i. map (beat_of (sym ops_are i)) (sym turns_are i)) in
+    sym (out.beats ∙ ap (λ (bs : List Beat). bs ++ out.own) (ap beats_of fresh.is)) ∙ ap beats_of counted in
     let history : IsGoodRun (drive_run fresh.size script turns ops) =
-    subst IsGoodRun (λ i. let r : Run = record { made = made i; turns = sym turns_are i; ops = sym ops_are i; coming = 0 } in r)
-    (record { follow = good.follow; own = good.own; log = good.log; good = good.good; valid = good.valid }) in
-    let begin : Scene = scene_at_start (made_for fresh.size script) in
-    record {
-      size = fresh.size;
-      measures = fresh.measures;
-      of_commands = tasks_along ops turns begin (capacity_of fresh.size) refl history.good;
-      of_blocks = λ front more is none. legal_along ops front begin (capacity_of fresh.size) refl (front_along begin ops turns front more is history.good) none;
-      stands = λ front more t is. stood_behind begin ops turns front more t is history.good;
-      history = history;
-      carried_out = subst (λ (bs : List Beat). CarryOut ByOrder order (scene_at_start (made_for fresh.size script)) [] script.lines bs) own
-          (subst (λ (s : Scene). CarryOut ByOrder order s [] script.lines out.own) from out.carried);
-    }
+    subst IsGoodRun counted (record { follow = good.follow; own = good.own; log = good.log; good = good.good; valid = good.valid }) in
+    let behind : List Op = behind_factory (made_for fresh.size script) ops in
+    let begin : Scene = scene_at_start (made_for fresh.size script) in (
+      record {
+        size = fresh.size;
+        measures = fresh.measures;
+        of_commands = tasks_along behind turns begin (capacity_of fresh.size) refl history.good;
+        of_blocks = λ front more is none. legal_along behind front begin (capacity_of fresh.size) refl (front_along begin behind turns front more is history.good) none;
+        stands = λ front more t is. stood_behind begin behind turns front more t is history.good;
+        history = history;
+        carried_out = subst (λ (bs : List Beat). CarryOut ByOrder order (scene_at_start (made_for fresh.size script)) [] script.lines bs) own
+            (subst (λ (s : Scene). CarryOut ByOrder order s [] script.lines out.own) from out.carried);
+      },
+      ap (λ (m : Made). length (factory_ops m)) (sym made),
+    )
 
 -- and no more turns than its lines take
 pub few_run : (order : Option ℕ) (script : Script) (start done : Run) (turns : List Turn) → IsFresh script start → CarriesOut start order script.lines done → turns ≡ done.turns

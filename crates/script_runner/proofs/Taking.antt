@@ -31,7 +31,7 @@ use Rattle.drive_scene.specs.declared.answer.Pick.{Pick}
 use Rattle.drive_scene.specs.declared.answer.Pick.TheVariants.{Arrive, Work, Job, Scan, Destage}
 use Rattle.drive_scene.specs.Scene.{Scene, Beat, capacity, scene_after, scene_at_start}
 use Rattle.drive_scene.specs.GoodTurn.{GoodTurn}
-use Rattle.drive_scene.specs.Run.{Run, IsGoodRun, scene_of, beat_of}
+use Rattle.drive_scene.specs.Run.{Run, IsGoodRun, scene_of, beats_of}
 use Rattle.drive_scene.specs.declared.answer.TurnAnswer.TheVariants as answer
 use Rattle.drive_scene.specs.Able.{refusal_of_work, work_refused}
 use Rattle.drive_scene.specs.Turning.{initiator_of, entry_of}
@@ -109,7 +109,7 @@ ages_along s [] all ages = ages
 ages_along s (t ∷ turns) all ages = ages_along (scene_after s t) turns all.1 (turn_ages (capacity s) t.label s.hist t.entries all.0.tasks ages)
 
 pub ages_of : (r : Run) → IsGoodRun r → Between 0 (scene_of r).hist.set (scene_of r).hist.arrived
-ages_of r good = ages_along (scene_at_start r.made) (map (beat_of r.ops) r.turns) good.good (omega arith)
+ages_of r good = ages_along (scene_at_start r.made) (beats_of r) good.good (omega arith)
 
 -- a turn of work on a command that is in takes off the turns that are left
 work_fewer : (s : Scene) (t : Beat) (c : ℕ) (sends left : Sends) → t.label ≡ label.Work c → GoodTurn s t → Between 0 s.hist.set s.hist.arrived → (m : Member) → member_of s.hist.set c ≡ Some m

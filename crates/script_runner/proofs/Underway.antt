@@ -4,14 +4,13 @@ use Rattle.std.specs.List.{list_all}
 use Rattle.geometry_map.specs.Size.{capacity_of}
 use Rattle.script_text.specs.declared.script.Line.{Line}
 use Rattle.drive_scene.specs.Scene.{Beat}
-use Rattle.drive_scene.specs.Run.{Run, scene_of}
+use Rattle.drive_scene.specs.Run.{Run, scene_of, beats_of}
 use Rattle.script_runner.specs.Arrivals.{Sends, arrived_in}
 use Rattle.script_runner.specs.Order.{order_after}
 use Rattle.script_runner.specs.Phase.{is_of_phase, ByOrder}
 use Rattle.script_runner.specs.Phasing.{AreServed}
 use Rattle.script_runner.specs.Leading.{Wait, IsAtRest, Leads}
 use Rattle.script_runner.specs.Measure.{turns_of_phase, turns_of_lines, turns_to_send}
-use Rattle.script_runner.specs.Run.{beats_of}
 
 -- a phase is in hand, and an order
 pub record InPhase (old : Run) (order : Option ℕ) (sends : Sends) (now : Run) (so_far : Option ℕ) (left : Sends) : Type 0 where

@@ -1,5 +1,5 @@
 -- What holds of every good run of a script.
-use Rattle.std.specs.Prelude.{◌≡◌, ℕ, ◌+◌, false, IsTrue, List, [], ◌∷◌, ◌++◌, fold, Option, length}
+use Rattle.std.specs.Prelude.{◌≡◌, ℕ, ◌+◌, false, IsTrue, List, [], ◌∷◌, ◌++◌, map, drop, fold, Option, length}
 use Rattle.disk_base.specs.declared.address.Lba.{Lba}
 use Rattle.disk_base.specs.declared.address.Psn.{Psn}
 use Rattle.disk_base.specs.declared.block.Value.{Value}
@@ -17,11 +17,19 @@ use Rattle.block_machine.specs.declared.turn.Turn.{Turn}
 use Rattle.block_machine.specs.Blocks.{is_dirty}
 use Rattle.block_machine.specs.History.{legal, task_legal, state_after, entries_of}
 use Rattle.block_machine.specs.Laws.{tally_of}
+use Rattle.block_machine.specs.KeptValues.{AreDirtyBlocks}
 use Rattle.block_machine.specs.State.{State}
 use Rattle.block_machine.specs.Steps.{begun, entries_after}
 use Rattle.drive_scene.specs.Scene.{Scene, Beat, capacity, scene_at_start, scene_after}
 use Rattle.drive_scene.specs.Evidence.{IsGotShown, FailedBelow, window_now, settings_now}
-use Rattle.script_runner.specs.Run.{IsGood, beats_of, drive_run}
+use Rattle.drive_scene.specs.Run.{beats_of}
+use Rattle.report_text.specs.declared.run.Form.TheVariants.{Whole}
+use Rattle.report_text.specs.Operations.{shown_of}
+use Rattle.report_text.specs.Summary.{counts_of}
+use Rattle.report_text.specs.Report.{report_of}
+use Rattle.report_text.specs.Reading.{IsReport, AreCounts}
+use Rattle.report_text.specs.Laws.{AreShowable}
+use Rattle.script_runner.specs.Run.{IsGood, drive_run, factory_count_of}
 use Rattle.script_runner.specs.Script.{made_for}
 
 -- a fact holds of the turns of each good run, over a disk of so many blocks
@@ -54,6 +62,10 @@ abbrev pub AllThatCameAreGone : ℕ → List Turn → Type 0
 AllThatCameAreGone blocks turns = (tally_of (entries_of turns)).came
     ≡ (tally_of (entries_of turns)).ended + (tally_of (entries_of turns)).aborted + (tally_of (entries_of turns)).cut
 
+-- the dirty blocks after turns are those for which something is pending, and the list of dirty addresses has each of them, once
+abbrev pub DirtyBlocksArePending : ℕ → List Turn → Type 0
+DirtyBlocksArePending blocks turns = AreDirtyBlocks (state_after blocks turns) (entries_of turns)
+
 -- what a drive has come to before a turn, and before an entry of it
 abbrev pub scene_before : Size → Script → List Beat → Scene
 scene_before size script before = fold scene_after (scene_at_start (made_for size script)) before
@@ -80,3 +92,11 @@ BadReadsAreShown = (order : Option ℕ) (script : Script) (turns : List Turn) (o
     → (before after : List Beat) (t : Beat) (earlier rest : List Entry) (c : ℕ) (b : Lba)
     → beats_of (drive_run good.size script turns ops) ≡ before ++ t ∷ after → t.entries ≡ earlier ++ Get c b Lost ∷ rest
     → let s = scene_before good.size script before in EachStageFailed (window_now s t c) (place_of s.map b) (settings_now s t c).retry
+
+-- a law: the report of a good run, printed whole, is the report of the run's own turns, so `read_run` gives these of it, where it has
+-- fewer than 2^32 - 1 bytes; if its numbers fit: those of labels, operations and entries the ranges of their types, as they do in
+-- memory, and those of the summary 64 bits
+abbrev pub ReportsTellTheirRuns : Type 0
+ReportsTellTheirRuns = (order : Option ℕ) (script : Script) (turns : List Turn) (ops : List Op) (good : IsGood order script turns ops)
+    → let before = factory_count_of good.size script in
+    AreShowable (map shown_of (drop before ops)) turns → AreCounts (counts_of turns ops) → IsReport (report_of Whole before turns ops) turns

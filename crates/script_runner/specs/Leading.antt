@@ -3,13 +3,12 @@ use Rattle.std.specs.Prelude.{◌≡◌, ℕ, ◌+◌, ◌≤◌, List, [], ◌�
 use Rattle.geometry_map.specs.Size.{capacity_of}
 use Rattle.script_text.specs.declared.script.Line.{Line}
 use Rattle.drive_scene.specs.Scene.{Beat}
-use Rattle.drive_scene.specs.Run.{Run, scene_of}
+use Rattle.drive_scene.specs.Run.{Run, scene_of, beats_of}
 use Rattle.script_runner.specs.Arrivals.{Sends, lines_of}
 use Rattle.script_runner.specs.Phase.{ByOrder}
 use Rattle.script_runner.specs.CarriedOut.{CarryOut}
 use Rattle.script_runner.specs.Phasing.{AreServed}
 use Rattle.script_runner.specs.Measure.{turns_of_line, turns_of_lines, turns_to_send}
-use Rattle.script_runner.specs.Run.{beats_of}
 
 -- lines wait, and this is what they have sent
 abbrev pub Wait : List Line → Sends → Type 0

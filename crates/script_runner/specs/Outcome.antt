@@ -12,7 +12,7 @@ use Rattle.report_text.specs.declared.run.Form.TheVariants.{Whole}
 use Rattle.report_text.specs.Report.{report_of}
 use Rattle.script_runner.specs.declared.outcome.Outcome.{Outcome}
 use Rattle.script_runner.specs.declared.outcome.Outcome.TheVariants.{Served, Usage, TooLong, Refused, ReadFault, WriteFault, NoMemory}
-use Rattle.script_runner.specs.Run.{IsGood}
+use Rattle.script_runner.specs.Run.{IsGoodByOrder}
 use Rattle.script_runner.specs.Measure.{turns_by_weight}
 use Rattle.script_runner.specs.Script.{blocks_of}
 
@@ -26,7 +26,7 @@ ReadsAll old new P = (bytes : List ℕ) × Consumes old new bytes × IsAtEnd new
 
 -- bytes mean the script of a run, and the run is a good one by an order
 abbrev pub IsRunOf : Option ℕ → Run → List ℕ → Type 0
-IsRunOf order run bytes = (script_of bytes ≡ Ok (asked_by run.script)) × IsGood order run.script run.turns run.ops
+IsRunOf order run bytes = (script_of bytes ≡ Ok (asked_by run.script)) × IsGoodByOrder order run
 
 -- what was read of the source, by what the call answers, where the turns are to come by an order
 abbrev pub SourceOf : Option ℕ → Option (List ℕ) → Option (List ℕ) → Outcome → Type 0
@@ -40,8 +40,8 @@ SourceOf order old new (Usage word) = ⊤
 
 -- what the sink got, by what the call answers
 abbrev pub SinkOf : Option (List ℕ) → Option (List ℕ) → Outcome → Type 0
-SinkOf old new (Served run) = Appends old new (report_of Whole run.turns run.ops)
-SinkOf old new (WriteFault run) = AppendsFront old new (report_of Whole run.turns run.ops)
+SinkOf old new (Served run) = Appends old new (report_of Whole run.factory_count run.turns run.ops)
+SinkOf old new (WriteFault run) = AppendsFront old new (report_of Whole run.factory_count run.turns run.ops)
 SinkOf old new (Refused line why) = Keeps old new
 SinkOf old new TooLong = Keeps old new
 SinkOf old new ReadFault = Keeps old new

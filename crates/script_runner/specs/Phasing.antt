@@ -12,14 +12,13 @@ use Rattle.drive_scene.specs.declared.answer.Pick.TheVariants as pick
 use Rattle.drive_scene.specs.Scene.{Beat}
 use Rattle.drive_core.specs.Served.{IsServedArrival}
 use Rattle.drive_scene.specs.Turning.{label_of_pick, initiator_of, AddsTurn}
-use Rattle.drive_scene.specs.Run.{Run, IsGoodRun, scene_of}
+use Rattle.drive_scene.specs.Run.{Run, IsGoodRun, scene_of, beats_of}
 use Rattle.script_runner.specs.Each.{Each}
 use Rattle.script_runner.specs.Arrivals.{Sends, arrived_by}
 use Rattle.script_runner.specs.Order.{order_after}
 use Rattle.script_runner.specs.Phase.{is_of_phase, ByOrder}
 use Rattle.script_runner.specs.CarriedOut.{CarriesPhase}
 use Rattle.script_runner.specs.Measure.{turns_of_phase}
-use Rattle.script_runner.specs.Run.{beats_of}
 
 -- something that is to be sent by an initiator, and is served
 pub record IsToSend (i : ℕ) (a : Arrival) : Type 0 where

@@ -1,5 +1,5 @@
 -- What a good run of a script is.
-use Rattle.std.specs.Prelude.{◌≡◌, ℕ, IsTrue, List, [], ◌∷◌, ◌++◌, map, fold, Option}
+use Rattle.std.specs.Prelude.{◌≡◌, ℕ, IsTrue, List, [], ◌∷◌, ◌++◌, length, fold, Option}
 use Rattle.geometry_map.specs.declared.size.Size.{Size}
 use Rattle.geometry_map.specs.Size.{capacity_of}
 use Rattle.platter_model.specs.declared.op.Op.{Op}
@@ -7,17 +7,14 @@ use Rattle.platter_model.specs.TrueLog.{strays}
 use Rattle.block_machine.specs.declared.turn.Turn.{Turn}
 use Rattle.block_machine.specs.History.{legal, task_legal}
 use Rattle.script_text.specs.declared.script.Script.{Script}
-use Rattle.drive_scene.specs.Scene.{Scene, Beat, scene_at_start, scene_after}
+use Rattle.report_text.specs.declared.run.Run as report
+use Rattle.drive_scene.specs.Scene.{Scene, scene_at_start, scene_after, factory_ops}
 use Rattle.drive_scene.specs.GoodTurn.{IsStood}
 use Rattle.drive_scene.specs.Run as drive
-use Rattle.drive_scene.specs.Run.{IsGoodRun, beat_of}
+use Rattle.drive_scene.specs.Run.{IsGoodRun, beats_of}
 use Rattle.script_runner.specs.Phase.{ByOrder}
 use Rattle.script_runner.specs.CarriedOut.{CarryOut}
 use Rattle.script_runner.specs.Script.{HasMeasures, made_for}
-
--- the turns of a drive with their own operations
-abbrev pub beats_of : drive.Run → List Beat
-beats_of r = map (beat_of r.ops) r.turns
 
 -- the drive of a script, with the turns and operations of a run
 abbrev pub drive_run : Size → Script → List Turn → List Op → drive.Run
@@ -45,3 +42,11 @@ pub record IsGood (order : Option ℕ) (script : Script) (turns : List Turn) (op
   -- and the turns carry out the lines, those of phases by the order
   pub carried_out :
       CarryOut ByOrder order (scene_at_start (made_for size script)) [] script.lines (beats_of (drive_run size script turns ops))
+
+-- how many operations the factory of a script's drive did
+abbrev pub factory_count_of : Size → Script → ℕ
+factory_count_of size script = length (factory_ops (made_for size script))
+
+-- a good run of its script by an order, whose turns name their operations among those behind the factory's
+abbrev pub IsGoodByOrder : Option ℕ → report.Run → Type 0
+IsGoodByOrder order run = (good : IsGood order run.script run.turns run.ops) × (run.factory_count ≡ factory_count_of good.size run.script)

@@ -10,7 +10,7 @@ ghost use Rattle.script_runner.specs.Script.{blocks_of, HasMeasures, IsServedLin
 ghost use Rattle.script_runner.specs.Measure.{turns_of_line, turns_of_lines, turns_to_send};
 ghost use Rattle.script_runner.specs.Leading.{IsAtRest, TakesLine, CarriesOut};
 ghost use Rattle.script_runner.specs.Phasing.{Happens};
-ghost use Rattle.script_runner.specs.Run.{IsGood};
+ghost use Rattle.script_runner.specs.Run.{IsGoodByOrder};
 
 use crate::order::Order;
 use crate::phase::{carry_phase, make_turn};
@@ -28,14 +28,20 @@ use std::alloc::Global;
 pub(crate) fn run_script(alloc: Global, script: Script, order: Order) -> Result<Run, NoMemory>
     requires { (size : Size) → HasMeasures script.size size → CanBeCarriedOut size script }
     ensures script { IfOk result (λ run. run.script ≡ script) }
-    ensures good { IfOk result (λ run. IsGood order.x run.script run.turns run.ops) }
+    ensures good { IfOk result (IsGoodByOrder order.x) }
     ensures few { IfOk result (λ run. length run.turns ≤ turns_of_lines (blocks_of run.script) run.script.lines) }
 {
     let mut drive = made(alloc, &script)?;
     carry_out(alloc, &mut drive, script.lines.as_slice(), order)?;
     drive.is_good();
+    let factory_count = drive.factory_count();
     let (turns, ops) = drive.into_parts();
-    Ok(Run { script, turns, ops })
+    Ok(Run {
+        script,
+        turns,
+        ops,
+        factory_count,
+    })
 }
 
 // The drive of a script.

@@ -3,10 +3,16 @@
 //! Those that speak of strays hold of runs in which no damage was taken for another payload; the others of every run.
 
 ghost use Rattle.block_machine.specs.Laws.{ReadsGiveWhatWasPutLast, HardenedValuesStay, ReadsGiveHardenedOrNewer, FirstReadSettles, ReadsGetEachBlockOnce, ForcedWritesAreHardened, SyncsFindEachBlockHardened, EndsHaveTheirStatus, NoneEndsTwice, SuccessesFollowStarts};
-ghost use Rattle.script_runner.specs.Laws.{OfGoodRuns, OfRunsWithoutStrays, AreLegal, AreTaskLegal, BeginningsAreLegal, NoneIsLeft, AllThatCameAreGone, GetsAreShown, BadReadsAreShown};
+ghost use Rattle.block_machine.specs.KeptValues.{ReadsGiveTheirOwnWrite, RuledOutValuesStayOut};
+ghost use Rattle.block_machine.specs.Lives.{WritesPutEachBlockOnce, SyncsHardenWhatWasPut, ForcedWritesStand, SyncedValuesStand};
+ghost use Rattle.block_machine.specs.Stages.{EntriesFitTheirStage};
+ghost use Rattle.history_laws.specs.Order.{TasksStartInOrder};
+ghost use Rattle.history_laws.specs.Unread.{UnreadEndsFollowBadGets};
+ghost use Rattle.script_runner.specs.Laws.{OfGoodRuns, OfRunsWithoutStrays, AreLegal, AreTaskLegal, BeginningsAreLegal, NoneIsLeft, AllThatCameAreGone, DirtyBlocksArePending, GetsAreShown, BadReadsAreShown, ReportsTellTheirRuns};
 
 use drive_scene::maps_stay;
 use geometry_map::{blocks_are_at_user_sectors, two_blocks_are_never_at_one_sector};
+use report_text::reports_read_again;
 
 /// Without strays, what initiators see is a legal history of an array of blocks. As far as commands go, it always is.
 pub fn good_runs_are_legal()
@@ -70,6 +76,60 @@ pub fn reads_get_each_block_once()
     ensures { OfGoodRuns ReadsGetEachBlockOnce }
 {}
 
+/// Without strays, a read that isn't bad gives the value that was put last, also after earlier power cuts, where since that put
+/// the power stayed on and the block wasn't given up.
+pub fn reads_give_their_own_write()
+    ensures { OfRunsWithoutStrays ReadsGiveTheirOwnWrite }
+{}
+
+/// Without strays, of two reads of a block that aren't bad, over power cuts between, the later gives what the earlier gave or a
+/// value that was put between, where each value that was put before the earlier one was hardened, or cut off, before it.
+pub fn ruled_out_values_stay_out()
+    ensures { OfRunsWithoutStrays RuledOutValuesStayOut }
+{}
+
+/// A write of any kind that ends GOOD, or with a recovered error, put each of its blocks, once, in order and with its data.
+pub fn writes_put_each_block_once()
+    ensures { OfGoodRuns WritesPutEachBlockOnce }
+{}
+
+/// Without strays, what was put at a block of a sync's range before the sync started is hardened before the sync ends GOOD, where
+/// the power stayed on from the put to the start.
+pub fn syncs_harden_what_was_put()
+    ensures { OfRunsWithoutStrays SyncsHardenWhatWasPut }
+{}
+
+/// Without strays, once a write that goes through has succeeded, or a sync of what was put before it started, what was put is what
+/// each later read of the block gives that isn't bad, over any power cuts, until something newer is put or the block is given up.
+pub fn hardened_writes_stand()
+    ensures forced { OfRunsWithoutStrays ForcedWritesStand }
+    ensures synced { OfRunsWithoutStrays SyncedValuesStand }
+{}
+
+/// Of each command nothing comes before its arrival; then until its start only TASK SET FULL or an abort; and nothing behind its
+/// end, its abort or a power cut.
+pub fn entries_fit_their_stage()
+    ensures { OfGoodRuns EntriesFitTheirStage }
+{}
+
+/// While an ORDERED command is in, no younger one starts but a HEAD OF QUEUE one, and itself it starts only once all older ones
+/// are over. While a HEAD OF QUEUE command is in, no other starts but a HEAD OF QUEUE one.
+pub fn tasks_start_in_order()
+    ensures { OfGoodRuns TasksStartInOrder }
+{}
+
+/// Where a read, a verification or a WRITE AND VERIFY ends with UNRECOVERED READ ERROR at a block, the last that it did to a block
+/// was a bad get of this one.
+pub fn unread_ends_follow_bad_gets()
+    ensures { OfGoodRuns UnreadEndsFollowBadGets }
+{}
+
+/// The dirty blocks are those to which something newer came that was neither hardened nor cut off since; the list of dirty
+/// addresses has each of them once.
+pub fn dirty_blocks_are_pending()
+    ensures { OfGoodRuns DirtyBlocksArePending }
+{}
+
 /// What a command gets of a block that isn't dirty are data that a stage found after those before it found nothing, or, where
 /// its mode values and its command block allow the cache, data that were put or found since the power came on. It gets the
 /// block as lost only where each stage found nothing or one found a lost mark; without strays, only where each found nothing.
@@ -80,4 +140,12 @@ pub fn gets_are_shown()
     maps_stay();
     two_blocks_are_never_at_one_sector();
     blocks_are_at_user_sectors();
+}
+
+/// The report of a good run, printed whole, is the report of its turns, where its numbers fit: so `read_run` gives the run's own
+/// turns of it, operations counted from behind the factory's.
+pub fn reports_tell_their_runs()
+    ensures { ReportsTellTheirRuns }
+{
+    reports_read_again();
 }

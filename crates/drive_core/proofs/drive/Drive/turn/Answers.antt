@@ -1,5 +1,4 @@
-use Rattle.std.proofs.Common.{◌∙◌, ℕ, false, length, refl, sym, ap, subst}
-use Rattle.platter_model.specs.State as platter
+use Rattle.std.proofs.Common.{◌∙◌, ℕ, false, refl, sym, subst}
 use Rattle.drive_scene.specs.declared.answer.TurnAnswer.TheVariants.{Done}
 use Rattle.drive_core.specs.declared.server.Server.{Server}
 use Rattle.drive_scene.specs.Run.{Run, run_of, scene_of}
@@ -34,11 +33,10 @@ invariant_of-self-2 c =
     reserved c.self.inside.made c.self.inside.server c.reserve.new.server c.self.inside.turns.items c.reserve.new.turns.items c.self.inside.coming c.args.self.now c.args.event
     c.refusal.result c.self.invariant c.self.view_is c.reserve.ensures.turns c.reserve.ensures.same c.requires c.refusal.ensures c.in_default.is in
     kept-after c.self.inside.made c.reserve.new.server c.make_turn.new.server c.reserve.new.turns.items c.push_reserved.new.self.items c.self.inside.coming c.coming_after-coming.result
-    c.args.event (turn_of c.in_ok-made.made (length c.ops.result.now) (length c.ops-2.result.now) c.sealed.result) c.in_ok-made.made
+    c.args.event (turn_of c.in_ok-made.made c.ops_done-from.result c.ops_done.result c.sealed.result) c.in_ok-made.made
     (made_turn c.self.inside.made c.args.self.now c.args.event c.reserve.new.server c.make_turn.new.server c.reserve.new.turns.items c.self.inside.coming c.in_ok-made.made
     c.make_turn.new.entries.items c.sealed.result ready c.in_ok-made.ensures.moves c.sealed.ensures) ready.kept refl
-    (ap length (c.ops.ensures ∙ ap (λ (p : platter.State). p.ops) c.platter.ensures))
-    (ap length (c.ops-2.ensures ∙ ap (λ (p : platter.State). p.ops) c.platter-2.ensures)) c.push_reserved.ensures.items
+    c.ops_done-from.ensures c.ops_done.ensures c.push_reserved.ensures.items
 
 pub returns-clause-turn : goal.returns-clause-turn
 returns-clause-turn c =
@@ -49,7 +47,7 @@ returns-clause-turn c =
     (Done c.len.result c.in_ok-made.made.ended false)
     (run_of c.self.inside.made c.make_turn.new.server.store c.push_reserved.new.self.items (coming_after c.self.inside.coming c.args.event)) =
     adds-turn c.self.inside.made c.reserve.new.server c.make_turn.new.server c.reserve.new.turns.items c.push_reserved.new.self.items c.self.inside.coming c.len.result c.args.event
-    (turn_of c.in_ok-made.made (length c.ops.result.now) (length c.ops-2.result.now) c.sealed.result) c.in_ok-made.made
+    (turn_of c.in_ok-made.made c.ops_done-from.result c.ops_done.result c.sealed.result) c.in_ok-made.made
     (made_turn c.self.inside.made c.args.self.now c.args.event c.reserve.new.server c.make_turn.new.server c.reserve.new.turns.items c.self.inside.coming c.in_ok-made.made
     c.make_turn.new.entries.items c.sealed.result ready c.in_ok-made.ensures.moves c.sealed.ensures) ready.kept refl c.push_reserved.ensures.items
     (c.len.ensures ∙ c.push_reserved.new.self.ok.0) in

@@ -1,0 +1,7 @@
+use Rattle.history_laws.specs.Unread.{UnreadEndsFollowBadGets}
+use Rattle.history_laws.proofs.UnreadLaw as histories
+use Rattle.script_runner.proofs.RunLaws.{of_task_legal}
+use Rattle.script_runner.proofs.laws.unread_ends_follow_bad_gets.Goals as goal
+
+pub returns : goal.returns
+returns c = of_task_legal UnreadEndsFollowBadGets histories.unread_ends_follow_bad_gets
