@@ -1,14 +1,13 @@
 -- What is ahead of a walk, by what stands in the script where the lines that wait come to an end.
-use Rattle.std.proofs.Common.{◌≡◌, ◌∙◌, ap, sym, refl, subst, ℕ, ◌+◌, ◌<◌, ◌≤◌, Bool, true, false, cond, not, List, [], ◌∷◌, ◌++◌, length, drop, arith}
-use Rattle.std.specs.Prelude.{◌&&◌, IsTrue, slice_range}
+use Rattle.std.proofs.Common.{◌≡◌, ap, refl, ℕ, Bool, true, false, cond, List, [], ◌∷◌, ◌++◌, drop}
 use Rattle.platter_model.specs.declared.world.World.{World as Event}
 use Rattle.script_text.specs.declared.script.Line.{Line}
 use Rattle.script_text.specs.declared.script.Line.TheVariants.{Command, Function, Scan, Destage, Go, World}
 use Rattle.script_text.specs.Standing.{is_world}
-use Rattle.history_checker.specs.Parts.{Part, is_from, lines_of, parts_behind}
+use Rattle.history_checker.specs.Parts.{Part, parts_behind}
 use Rattle.history_checker.specs.Parts.Part.{Phase, Outside}
 use Rattle.history_checker.specs.Standing.{BeginsWith, begins_with, done_first, is_done_first, is_stop, past_first}
-use Rattle.history_checker.specs.Walk.{Place, Walk, is_done, none_came, place_past, settled}
+use Rattle.history_checker.specs.Walk.{Place, Walk, none_came, place_past, settled}
 
 -- the parts behind a phase
 abbrev pub parts_past : List Line → List Part

@@ -1,6 +1,6 @@
 -- Behind a history that a script allows no command is in.
-use Rattle.std.proofs.Common.{◌≡◌, ◌∙◌, ap, sym, refl, subst, ℕ, zero, suc, ◌+◌, Bool, true, false, cond, not, List, [], ◌∷◌, ◌++◌, length, drop, arith, inl, inr}
-use Rattle.std.specs.Prelude.{◌&&◌, ◌||◌, ◌==◌, ◌⊎◌, IsTrue, fold, filter, find, map, Option, Some, None}
+use Rattle.std.proofs.Common.{◌≡◌, ◌∙◌, ap, sym, refl, subst, ℕ, ◌+◌, Bool, true, false, cond, not, List, [], ◌∷◌, ◌++◌, length, drop, arith, inl, inr}
+use Rattle.std.specs.Prelude.{◌&&◌, ◌||◌, ◌==◌, ◌⊎◌, fold, filter, find, Option, Some, None}
 use Rattle.std.specs.List.{list_all}
 use Rattle.std.proofs.lemmas.Bool.{and_parts, eqb-true}
 use Rattle.disk_base.specs.Along.{all_along}
@@ -8,7 +8,7 @@ use Rattle.platter_model.specs.declared.world.World.{World as Event}
 use Rattle.task_set.specs.declared.member.Member.{Member}
 use Rattle.task_set.specs.Members.{is_named, numbers, with_started, without}
 use Rattle.block_machine.specs.declared.entry.Entry.{Entry}
-use Rattle.block_machine.specs.declared.entry.Entry.TheVariants.{Arrived, Started, Get, Put, Harden, Passed, GiveUp, Page, Ended, Aborted, Asked, Mode, Scanned, Logged, Cut, PoweredOn, Tick, Blank, Fresh}
+use Rattle.block_machine.specs.declared.entry.Entry.TheVariants.{Arrived, Started, Ended, Aborted, Asked, Cut, PoweredOn, Tick}
 use Rattle.block_machine.specs.declared.turn.Label.{Label}
 use Rattle.block_machine.specs.declared.turn.Label.TheVariants.{Arrive, Work, Job, Scan, Destage, World}
 use Rattle.block_machine.specs.declared.turn.Turn.{Turn}
@@ -16,7 +16,7 @@ use Rattle.block_machine.specs.Attentions.{attentions_at_start, initiators}
 use Rattle.block_machine.specs.Entries.{entry_lawful}
 use Rattle.block_machine.specs.History.{entries_of}
 use Rattle.block_machine.specs.Laws.{tally_of}
-use Rattle.block_machine.specs.State.{State, is_full, state_at_start}
+use Rattle.block_machine.specs.State.{State, is_full}
 use Rattle.block_machine.specs.Steps.{begun, entries_after, entry_after, set_after}
 use Rattle.block_machine.specs.Turns.{are_aborted, arrival_lawful, blocks_lawful, is_answered, is_settled, named_by, starts_alone, tasks_lawful, turn_after, turn_lawful, work_lawful}
 use Rattle.block_machine.proofs.Counting.{commands_are_accounted_for}
@@ -28,7 +28,7 @@ use Rattle.history_checker.specs.Good.{Course, course_after, course_at_start, co
 use Rattle.history_checker.specs.Laws.{AreAccountedFor, OfGoodHistories}
 use Rattle.history_checker.specs.Parts.{Part, capacity_of, parts_behind}
 use Rattle.history_checker.specs.Parts.Part.{Phase, Outside}
-use Rattle.history_checker.specs.Walk.{Place, Walk, advanced, allows, comes_next, event_after, event_of, happens_next, is_arrival, is_done, is_empty, is_next, left_of, next_lines, none_came, on_after, place_after, place_past, power_allows, sender_of, settled, tells_first, walk_after, walk_allows}
+use Rattle.history_checker.specs.Walk.{Place, Walk, comes_next, event_after, event_of, happens_next, is_arrival, is_done, is_empty, is_next, left_of, next_lines, none_came, on_after, place_after, place_past, power_allows, sender_of, settled, tells_first, walk_allows}
 use Rattle.history_checker.proofs.GoodLaws.{nil_is}
 
 -- the turn isn't an arrival

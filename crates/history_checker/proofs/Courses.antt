@@ -1,10 +1,10 @@
 -- Turns one after another, along a script and as a history.
-use Rattle.std.proofs.Common.{◌≡◌, ◌∙◌, ap, sym, refl, subst, ℕ, zero, suc, ◌+◌, ◌-◌, ◌<◌, ◌≤◌, Bool, true, false, cond, not, List, [], ◌∷◌, ◌++◌, length, get_or, drop, take, arith}
-use Rattle.std.specs.Prelude.{◌&&◌, ◌==◌, IsTrue, fold, Option, Some, None, unwrap_or}
+use Rattle.std.proofs.Common.{◌≡◌, ◌∙◌, ap, sym, refl, ℕ, suc, ◌+◌, ◌<◌, Bool, true, false, cond, List, [], ◌∷◌, ◌++◌, length, get_or, drop, take, arith}
+use Rattle.std.specs.Prelude.{◌&&◌, fold, Option, Some, None}
 use Rattle.std.specs.Option.{option_map}
 use Rattle.std.proofs.lemmas.Bool.{and_parts}
 use Rattle.std.proofs.lemmas.Grind.{fold-append}
-use Rattle.std.proofs.lemmas.List.{drop_all, drop_more, take_all, take_more}
+use Rattle.std.proofs.lemmas.List.{take_more}
 use Rattle.disk_base.specs.Along.{all_along, first_failing}
 
 module _ {S T : Type 0} (step : S → T → S) (p : S → T → Bool) where

@@ -1,6 +1,6 @@
 -- How turns fall to the parts of a script.
-use Rattle.std.proofs.Common.{◌≡◌, ◌∙◌, ap, sym, refl, subst, ℕ, zero, suc, ◌+◌, Bool, true, false, cond, List, [], ◌∷◌, ◌++◌, drop, append_assoc}
-use Rattle.std.specs.Prelude.{◌&&◌, ◌||◌, ◌==◌, fold, filter, find, Option, Some, None}
+use Rattle.std.proofs.Common.{◌≡◌, ◌∙◌, ap, sym, refl, subst, ℕ, ◌+◌, Bool, true, false, cond, List, [], ◌∷◌, ◌++◌, drop}
+use Rattle.std.specs.Prelude.{◌&&◌, ◌||◌, ◌==◌, fold, Option, Some}
 use Rattle.std.specs.List.{list_all, list_any}
 use Rattle.std.proofs.lemmas.Bool.{and_parts, eqb-true, eq-eqb, ne_eqb, false≢true}
 use Rattle.std.proofs.lemmas.List.{drop-drop}
@@ -9,7 +9,7 @@ use Rattle.disk_base.specs.Along.{all_along}
 use Rattle.platter_model.specs.declared.world.World.{World as Event}
 use Rattle.platter_model.specs.declared.world.World.TheVariants as world
 use Rattle.block_machine.specs.declared.entry.Entry.{Entry}
-use Rattle.block_machine.specs.declared.entry.Entry.TheVariants.{Arrived, Started, Get, Put, Harden, Passed, GiveUp, Page, Ended, Aborted, Asked, Mode, Scanned, Logged, Cut, PoweredOn, Tick, Blank, Fresh}
+use Rattle.block_machine.specs.declared.entry.Entry.TheVariants.{Cut, PoweredOn, Tick}
 use Rattle.block_machine.specs.declared.turn.Label.{Label}
 use Rattle.block_machine.specs.declared.turn.Label.TheVariants.{Arrive, Work, Job, Scan, Destage, World}
 use Rattle.block_machine.specs.declared.turn.Turn.{Turn}
@@ -21,11 +21,11 @@ use Rattle.script_text.specs.declared.script.Line.{Line}
 use Rattle.history_checker.specs.declared.power.PowerEvent.{PowerEvent}
 use Rattle.history_checker.specs.declared.power.PowerEvent.TheVariants.{Nothing, Off, On, Minutes, Several}
 use Rattle.history_checker.specs.Good.{Course, course_after, course_at_start, course_of, is_finished, is_idle, may_come}
-use Rattle.history_checker.specs.Laws.{AreLeftByCuts, AtEvent, FallTo, InPhase, NothingComes, OfGoodHistories, arrivals_from, goes_off, is_event, is_outside, power_behind, tell_all, tell_front}
+use Rattle.history_checker.specs.Laws.{AreLeftByCuts, FallTo, InPhase, NothingComes, OfGoodHistories, arrivals_from, goes_off, is_event, is_outside, power_behind, tell_all, tell_front}
 use Rattle.history_checker.specs.Parts.{Part, capacity_of, lines_of, parts_behind}
 use Rattle.history_checker.specs.Parts.Part.{Phase, Outside}
-use Rattle.history_checker.specs.Same.{same_world, tells}
-use Rattle.history_checker.specs.Walk.{Place, came_after, comes_next, event_after, event_of, happens_next, is_arrival, is_done, is_empty, is_next, left_of, next_lines, none_came, on_after, place_after, place_past, power_allows, sender_of, settled, tells_first, walk_allows}
+use Rattle.history_checker.specs.Same.{tells}
+use Rattle.history_checker.specs.Walk.{came_after, comes_next, event_after, event_of, happens_next, is_arrival, is_done, is_empty, is_next, left_of, next_lines, none_came, on_after, place_after, place_past, power_allows, sender_of, settled, tells_first, walk_allows}
 use Rattle.history_checker.proofs.AllEnded.{IsOther, at-place, walk-at, work-entries}
 use Rattle.history_checker.proofs.Coming.{IsFresh, came-in, next-fresh, none-come, none-fresh, past-fresh}
 use Rattle.history_checker.proofs.GoodLaws.{nil_is}

@@ -1,20 +1,17 @@
 -- Laws on histories that a script allows.
-use Rattle.std.proofs.Common.{◌≡◌, ◌∙◌, ap, sym, refl, subst, ℕ, ◌+◌, Bool, true, false, List, [], ◌∷◌, length, arith}
-use Rattle.std.specs.Prelude.{◌&&◌, ◌==◌, IsTrue, find, fold, Option, Some, None}
+use Rattle.std.proofs.Common.{◌≡◌, ◌∙◌, ap, refl, ℕ, Bool, true, false, List, [], ◌∷◌}
+use Rattle.std.specs.Prelude.{◌&&◌, find, Option, Some, None}
 use Rattle.std.proofs.lemmas.Bool.{and_parts}
 use Rattle.disk_base.specs.Along.{all_along}
-use Rattle.platter_model.specs.declared.world.World.{World as Event}
 use Rattle.block_machine.specs.declared.entry.Entry.{Entry}
 use Rattle.block_machine.specs.declared.turn.Label.{Label}
 use Rattle.block_machine.specs.declared.turn.Label.TheVariants.{Arrive, Work, Job, Scan, Destage, World}
 use Rattle.block_machine.specs.declared.turn.Turn.{Turn}
-use Rattle.block_machine.specs.State.{State}
 use Rattle.block_machine.specs.Turns.{turn_after, turn_lawful}
-use Rattle.script_text.specs.declared.script.Line.{Line}
-use Rattle.history_checker.specs.Good.{Course, array_good, course_after, course_at_start, course_of, is_finished, is_idle, may_come}
+use Rattle.history_checker.specs.Good.{Course, course_after, course_at_start, course_of, is_finished, is_idle, may_come}
 use Rattle.history_checker.specs.Laws.{AreLegal, NoneMayFollow, OfGoodHistories, is_of_script}
 use Rattle.history_checker.specs.Parts.{Part, capacity_of}
-use Rattle.history_checker.specs.Walk.{Place, Walk, comes_next, happens_next, is_arrival, is_empty, is_next, next_lines, power_allows, event_of, sender_of, settled, tells_first, walk_allows}
+use Rattle.history_checker.specs.Walk.{Place, comes_next, happens_next, is_arrival, is_empty, is_next, next_lines, power_allows, event_of, sender_of, settled, tells_first, walk_allows}
 
 -- turns that may come, along the script and of the history, may come of the history
 pub along_history : (capacity : ℕ) (c : Course) (turns : List Turn) → all_along (course_after capacity) (may_come capacity) c turns ≡ true

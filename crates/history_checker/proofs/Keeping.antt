@@ -1,6 +1,6 @@
 -- What is kept of a walk stands for it, step by step.
-use Rattle.std.proofs.Common.{◌≡◌, ◌∙◌, ap, sym, refl, subst, ℕ, zero, suc, ◌+◌, ◌-◌, ◌<◌, ◌≤◌, Bool, true, false, cond, not, List, [], ◌∷◌, ◌++◌, length, get_or, set, drop, take, append_assoc, arith, inl, inr}
-use Rattle.std.specs.Prelude.{◌&&◌, ◌||◌, ◌==◌, ◌⊎◌, IsTrue, slice_index, slice_range, filter, Option, Some, None}
+use Rattle.std.proofs.Common.{◌≡◌, ◌∙◌, ap, sym, refl, subst, ℕ, zero, suc, ◌+◌, ◌<◌, ◌≤◌, Bool, true, false, cond, not, List, [], ◌∷◌, ◌++◌, length, get_or, set, drop, append_assoc, arith, inl, inr}
+use Rattle.std.specs.Prelude.{◌&&◌, ◌||◌, ◌==◌, ◌⊎◌, slice_index, slice_range}
 use Rattle.std.specs.List.{list_all}
 use Rattle.std.proofs.lemmas.Bool.{eq-eqb, eqb-true, ne_eqb, false≢true}
 use Rattle.std.proofs.lemmas.List.{drop_all, drop-append-le, drop-drop, drop_more, get_or-set_same, get_or-set_other, length-append, length-drop, length-set}
@@ -10,14 +10,14 @@ use Rattle.platter_model.specs.declared.world.World.{World as Event}
 use Rattle.block_machine.specs.declared.entry.Entry.{Entry}
 use Rattle.block_machine.specs.Attentions.{initiators}
 use Rattle.script_text.specs.declared.script.Line.{Line}
-use Rattle.script_text.specs.declared.script.Line.TheVariants.{Command, Function, Scan, Destage, Go, World}
+use Rattle.script_text.specs.declared.script.Line.TheVariants.{World}
 use Rattle.script_text.specs.Standing.{is_world}
 use Rattle.history_checker.specs.declared.walk.Walk as kept
 use Rattle.history_checker.specs.Parts.{Part, is_from, lines_of, parts_behind}
 use Rattle.history_checker.specs.Parts.Part.{Phase, Outside}
 use Rattle.history_checker.specs.Same.{tells}
 use Rattle.history_checker.specs.Standing.{BeginsWith, IsAhead, IsPlace, Keeps, StandsFirst, begins_with, done_first, is_done_first, is_phase_ahead, is_stop, past_first}
-use Rattle.history_checker.specs.Walk.{Place, Walk, is_done, is_empty, left_of, next_lines, none_came, tells_first, walk_at_start}
+use Rattle.history_checker.specs.Walk.{Place, Walk, is_empty, left_of, next_lines, none_came, tells_first, walk_at_start}
 use Rattle.history_checker.proofs.Ahead.{event_first, one_waits, parts_past, phase_first}
 use Rattle.history_checker.proofs.Ranges.{drop_next, range_front, range_join, range_more, range_none}
 

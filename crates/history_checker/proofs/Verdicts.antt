@@ -1,7 +1,7 @@
 -- The first flaw of turns, as they are gone through.
 use Rattle.std.proofs.Common.{◌≡◌, ◌∙◌, ap, sym, refl, subst, ℕ, ◌+◌, ◌<◌, ◌≤◌, Bool, true, false, cond, List, [], ◌∷◌, ◌++◌, length, get_or, drop, take, arith}
 use Rattle.std.specs.Prelude.{◌&&◌, ◌↔◌, IsTrue, fold, Option, Some, None, unwrap_or}
-use Rattle.std.proofs.lemmas.Bool.{and_parts, false≢true}
+use Rattle.std.proofs.lemmas.Bool.{and_parts}
 use Rattle.std.proofs.lemmas.List.{drop_all, drop_more, length-take-le, take-append-drop, take_all}
 use Rattle.disk_base.specs.Along.{all_along, first_failing}
 use Rattle.block_machine.specs.declared.turn.Turn.{Turn}
@@ -10,7 +10,6 @@ use Rattle.script_text.specs.declared.script.Line.{Line}
 use Rattle.script_text.specs.declared.script.Script.{Script}
 use Rattle.history_replay.specs.declared.monitor.Monitor.{Monitor}
 use Rattle.history_replay.specs.Monitor.{Follows, Judges}
-use Rattle.history_checker.specs.declared.verdict.Flaw.{Flaw}
 use Rattle.history_checker.specs.declared.verdict.Flaw.TheVariants.{Order, Step, Left}
 use Rattle.history_checker.specs.declared.verdict.Verdict.{Verdict}
 use Rattle.history_checker.specs.declared.verdict.Verdict.TheVariants.{Yes, No}
@@ -18,8 +17,8 @@ use Rattle.history_checker.specs.declared.walk.Walk as kept
 use Rattle.history_checker.specs.Good.{Course, array_good, course_after, course_at_start, course_of, flaw_behind, flaw_next, is_finished, is_good, is_idle, may_come, no_at, turns_allowed, verdict_by, verdict_of}
 use Rattle.history_checker.specs.Parts.{capacity_of}
 use Rattle.history_checker.specs.Standing.{Keeps}
-use Rattle.history_checker.specs.Walk.{Walk, advanced, allows, is_empty, settled, walk_allows, walk_after}
-use Rattle.history_checker.proofs.Courses.{Passes, all_more, fails_at, first_behind, none_fails, none_first, passes_more}
+use Rattle.history_checker.specs.Walk.{Walk, advanced, allows, is_empty, settled, walk_allows}
+use Rattle.history_checker.proofs.Courses.{Passes, fails_at, first_behind, none_fails, none_first, passes_more}
 
 -- so many turns have come, and what is kept stands for what they have come to
 pub record Stands (capacity : ℕ) (lines : List Line) (monitor : Monitor) (walk : kept.Walk) (turns : List Turn) (k : ℕ) : Type 0 where

@@ -1,8 +1,8 @@
 -- A script, cut into what its lines ask for one after another.
-use Rattle.std.specs.Prelude.{ℕ, ◌==◌, Bool, false, List, [], ◌∷◌, ◌++◌, filter, Option}
+use Rattle.std.specs.Prelude.{ℕ, ◌==◌, Bool, false, List, [], ◌∷◌, ◌++◌, filter}
 use Rattle.platter_model.specs.declared.world.World.{World as Event}
 use Rattle.script_text.specs.declared.script.Line.{Line}
-use Rattle.script_text.specs.declared.script.Line.TheVariants.{Command, Function, Scan, Destage, Go, World}
+use Rattle.script_text.specs.declared.script.Line.TheVariants.{Command, Function, Go, World}
 use Rattle.script_text.specs.declared.script.Script.{Script}
 use Rattle.script_text.specs.Measures.{measures_of, given_or_default}
 use Rattle.script_text.specs.Standing as standing

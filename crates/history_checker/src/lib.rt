@@ -6,8 +6,6 @@ mod check;
 mod laws;
 mod power;
 mod same;
-#[cfg(test)]
-mod tests;
 mod verdict;
 mod walk;
 

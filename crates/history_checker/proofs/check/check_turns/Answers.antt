@@ -1,4 +1,4 @@
-use Rattle.std.proofs.Common.{◌≡◌, ◌∙◌, ◌<◌, ◌≤◌, sym, length, rules}
+use Rattle.std.proofs.Common.{◌∙◌, ◌<◌, ◌≤◌, sym, length, rules}
 use Rattle.history_checker.specs.Parts.{capacity_of}
 use Rattle.history_checker.specs.Walk.{settled}
 use Rattle.history_checker.proofs.Verdicts.{answers, left_told, one_more, order_told, over_told, step_told}

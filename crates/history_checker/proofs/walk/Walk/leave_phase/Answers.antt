@@ -1,4 +1,4 @@
-use Rattle.std.proofs.Common.{◌≡◌, ◌+◌, ◌<◌, ℕ, ap, subst, replicate, arith}
+use Rattle.std.proofs.Common.{◌+◌, ℕ, subst}
 use Rattle.std.specs.Prelude.{slice_index, slice_range}
 use Rattle.std.proofs.lemmas.List.{get_or-replicate}
 use Rattle.history_checker.specs.Parts.{lines_of}

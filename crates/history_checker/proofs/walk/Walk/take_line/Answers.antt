@@ -1,4 +1,4 @@
-use Rattle.std.proofs.Common.{◌≡◌, ◌∙◌, ◌+◌, ℕ, sym, subst}
+use Rattle.std.proofs.Common.{◌∙◌, ◌+◌, ℕ, sym, subst}
 use Rattle.std.specs.Prelude.{IsTrue, slice_index, slice_range, slice_set}
 use Rattle.disk_base.specs.At.{put_at}
 use Rattle.history_checker.specs.Parts.{lines_of}
