@@ -70,6 +70,13 @@ zero_two_before bits spaced k one = elim (cases_Bool (get_or bits k false)) [
   | inr e ↦ e
 ]
 
+-- the two bits before a 1 are 0, and two 0s stand before the first
+pub zeros_before : (bits : List Bool) → AreSpaced bits → (k : ℕ) → get_or bits k false ≡ true
+    → (get_or (false ∷ false ∷ bits) (suc k) false ≡ false) × (get_or (false ∷ false ∷ bits) k false ≡ false)
+zeros_before bits spaced zero one = (refl, refl)
+zeros_before bits spaced (suc zero) one = (zero_before bits spaced 0 one, refl)
+zeros_before bits spaced (suc (suc k)) one = (zero_before bits spaced (suc k) one, zero_two_before bits spaced k one)
+
 pub IsAllowed-from_spaced : (bits : List Bool) → AreSpaced bits → IsAllowed (level_word bits)
 IsAllowed-from_spaced bits spaced = record {
   levels = AreLevels-levels_after true bits;

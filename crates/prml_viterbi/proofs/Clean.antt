@@ -15,7 +15,7 @@ zero_from_square (pos zero) e = refl
 zero_from_square (pos (suc n)) e = absurd (omega arith)
 zero_from_square (negsuc n) e = absurd (omega arith)
 
-distance-clean : (samples word : List ℤ) (n : ℕ) → ((k : ℕ) → k < n → get_or samples k (pos 0) ≡ clean_at word k) → distance_below samples word n ≡ 0
+pub distance-clean : (samples word : List ℤ) (n : ℕ) → ((k : ℕ) → k < n → get_or samples k (pos 0) ≡ clean_at word k) → distance_below samples word n ≡ 0
 distance-clean samples word zero clean = refl
 distance-clean samples word (suc n) clean =
     let before = distance-clean samples word n (λ k h. clean k (omega arith)) in
@@ -25,7 +25,7 @@ distance-clean samples word (suc n) clean =
     below : n < suc n
     below = omega arith
 
-clean-from_distance : (samples word : List ℤ) (n : ℕ) → distance_below samples word n ≡ 0 → (k : ℕ) → k < n → get_or samples k (pos 0) ≡ clean_at word k
+pub clean-from_distance : (samples word : List ℤ) (n : ℕ) → distance_below samples word n ≡ 0 → (k : ℕ) → k < n → get_or samples k (pos 0) ≡ clean_at word k
 clean-from_distance samples word zero none k h = absurd (omega arith)
 clean-from_distance samples word (suc n) none k h = elim (cases_lt k n) [
   | inl less ↦ clean-from_distance samples word n (omega arith) k less
@@ -36,7 +36,7 @@ clean-from_distance samples word (suc n) none k h = elim (cases_lt k n) [
 ]
 
 -- words with the same clean samples have the same levels
-same_levels : (word other : List ℤ) (n : ℕ) → ((k : ℕ) → k < n → clean_at word k ≡ clean_at other k) → (k : ℕ) → k ≤ n
+pub same_levels : (word other : List ℤ) (n : ℕ) → ((k : ℕ) → k < n → clean_at word k ≡ clean_at other k) → (k : ℕ) → k ≤ n
     → (level_at word (suc k) ≡ level_at other (suc k)) × (level_at word (suc (suc k)) ≡ level_at other (suc (suc k)))
 same_levels word other n same zero h = (refl, refl)
 same_levels word other n same (suc k) h =

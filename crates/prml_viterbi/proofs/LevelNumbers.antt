@@ -1,5 +1,5 @@
 -- Levels as bits of a number: how the flips so far are found, and what they say of the word of levels.
-use Rattle.std.proofs.Common.{◌≡◌, ◌⊎◌, ℕ, zero, suc, ◌+◌, ◌-◌, ◌*◌, ◌^◌, ◌/◌, ◌%◌, ◌<◌, ◌≤◌, Bool, true, false, eqb, List, length, take, get_or, pos, ◌-ℤ◌, ◌*ℤ◌, refl, sym, ap, ◌∙◌, inl, inr, arith}
+use Rattle.std.proofs.Common.{◌≡◌, ◌⊎◌, ℕ, zero, suc, ◌+◌, ◌-◌, ◌*◌, ◌^◌, ◌/◌, ◌%◌, ◌<◌, ◌≤◌, Bool, true, false, eqb, List, length, take, get_or, subst, pos, ◌-ℤ◌, ◌*ℤ◌, refl, sym, ap, ◌∙◌, inl, inr, arith}
 use Rattle.std.specs.Int.{bit_at, bit_not, w64}
 use Rattle.std.specs.Int.Bits.{bit_xor}
 use Rattle.std.proofs.lemmas.Bool.{cases_lt}
@@ -43,12 +43,12 @@ ones-clip w (suc i) (suc m) n h =
     let z : suc m + n ≡ suc (m + n) = omega arith in
     ap (ones_at w (suc i)) z ∙ ap (λ x. bit_at w (suc i) + x) (ones-clip w i m n (omega arith))
 
-shifted_low : (x m i : ℕ) → i < 64 → i < m → bit_at (x * 2 ^ m % 2 ^ 64) i ≡ 0
+pub shifted_low : (x m i : ℕ) → i < 64 → i < m → bit_at (x * 2 ^ m % 2 ^ 64) i ≡ 0
 shifted_low x m i below low =
     let e : x * 2 ^ m ≡ x * 2 ^ m + 0 = omega arith in
     bit_at-mod (x * 2 ^ m) 64 i below ∙ ap (λ v. bit_at v i) e ∙ bit_at_cat_low x m 0 i low ∙ bit_at-zero i
 
-shifted_high : (x m i : ℕ) → i < 64 → m ≤ i → bit_at (x * 2 ^ m % 2 ^ 64) i ≡ bit_at x (i - m)
+pub shifted_high : (x m i : ℕ) → i < 64 → m ≤ i → bit_at (x * 2 ^ m % 2 ^ 64) i ≡ bit_at x (i - m)
 shifted_high x m i below high =
     let e : x * 2 ^ m ≡ x * 2 ^ m + 0 = omega arith in
     bit_at-mod (x * 2 ^ m) 64 i below ∙ ap (λ v. bit_at v i) e ∙ bit_at_cat_high x m 0 i (pow_pos m) high
@@ -160,7 +160,7 @@ flip_bits (suc zero) (suc (suc b)) h k = absurd (omega arith)
 flip_bits (suc (suc a)) b h k = absurd (omega arith)
 
 -- the levels of a word's places, behind the two before it
-pub levels_from : (bits : List Bool) (at word before levels : ℕ) → before < 4 → ((k : ℕ) → k < 64 → at + k < length bits → get_or bits (at + k) false ≡ eqb (bit_at word k) 1) → GiveLevels word before levels → AreLevelsFrom bits at 2 before → AreLevelsFrom bits at 66 (4 * levels + before)
+levels_from : (bits : List Bool) (at word before levels : ℕ) → before < 4 → ((k : ℕ) → k < 64 → at + k < length bits → get_or bits (at + k) false ≡ eqb (bit_at word k) 1) → GiveLevels word before levels → AreLevelsFrom bits at 2 before → AreLevelsFrom bits at 66 (4 * levels + before)
 levels_from bits at word before levels small holds gives so_far zero below inside = so_far zero (omega arith) inside ∙ ap (λ b. level_for (eqb b 0)) (sym (two_below levels before 0 (omega arith)))
 levels_from bits at word before levels small holds gives so_far (suc zero) below inside = so_far 1 (omega arith) inside ∙ ap (λ b. level_for (eqb b 0)) (sym (two_below levels before 1 (omega arith)))
 levels_from bits at word before levels small holds gives so_far (suc (suc k)) below inside =
@@ -188,7 +188,7 @@ levels_none bits (suc zero) below inside = refl
 levels_none bits (suc (suc m)) below inside = absurd (omega arith)
 
 -- the last two levels of a word are those before the next
-pub levels_next : (bits : List Bool) (at levels before : ℕ) → before < 4 → AreLevelsFrom bits at 66 (4 * levels + before) → AreLevelsFrom bits (at + 64) 2 (levels / 2 ^ 62)
+levels_next : (bits : List Bool) (at levels before : ℕ) → before < 4 → AreLevelsFrom bits at 66 (4 * levels + before) → AreLevelsFrom bits (at + 64) 2 (levels / 2 ^ 62)
 levels_next bits at levels before small all m below inside =
     let e : at + 64 + m + 1 ≡ at + (62 + m + 2) + 1 = omega arith in
     ap (level_at (level_word bits)) e
@@ -235,8 +235,26 @@ ten_highest levels before i small fits low high =
     all ∙ ap (λ n. (4 * levels + before) / 2 ^ (8 * n) % 1024) e
 
 -- the bits of the words are those of the list
-pub holds_bits : (words : List ℕ) (n j : ℕ) → j < length words → n ≤ 64 * length words
+holds_bits : (words : List ℕ) (n j : ℕ) → j < length words → n ≤ 64 * length words
     → (k : ℕ) → k < 64 → 64 * j + k < length (take n (word_bits words)) → get_or (take n (word_bits words)) (64 * j + k) false ≡ eqb (bit_at (get_or words j 0) k) 1
 holds_bits words n j inside room k below short =
     let long : length (take n (word_bits words)) ≡ n = length-take-le n (word_bits words) (omega (arith, length-word_bits words)) in
     get_or-take n (word_bits words) (64 * j + k) false (omega arith) ∙ get_or-word_bits words j k inside below
+
+-- so many bits of words
+pub length-taken : (words : List ℕ) (n : ℕ) → n ≤ 64 * length words → length (take n (word_bits words)) ≡ n
+length-taken words n room = length-take-le n (word_bits words) (omega (arith, length-word_bits words))
+
+-- the levels of word j, and the two before the next
+pub record AreLevelsOf (bits : List Bool) (j levels before : ℕ) : Type 0 where
+  pub here : AreLevelsFrom bits (64 * j) 66 (4 * levels + before)
+  pub next : AreLevelsFrom bits (64 * (j + 1)) 2 (levels / 2 ^ 62)
+
+pub levels_of_word : (words : List ℕ) (n i j before levels : ℕ) → i ≡ j → j < length words → n ≤ 64 * length words → before < 4 → GiveLevels (get_or words j 0) before levels
+    → AreLevelsFrom (take n (word_bits words)) (64 * i) 2 before → AreLevelsOf (take n (word_bits words)) j levels before
+levels_of_word words n i j before levels same inside room small gives so_far =
+    let bits = take n (word_bits words) in
+    let start : AreLevelsFrom bits (64 * j) 2 before = subst (λ m. AreLevelsFrom bits (64 * m) 2 before) same so_far in
+    let here = levels_from bits (64 * j) (get_or words j 0) before levels small (holds_bits words n j inside room) gives start in
+    let next : 64 * j + 64 ≡ 64 * (j + 1) = omega arith in
+    record { here = here; next = subst (λ at. AreLevelsFrom bits at 2 (levels / 2 ^ 62)) next (levels_next bits (64 * j) levels before small here) }

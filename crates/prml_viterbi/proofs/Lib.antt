@@ -17,3 +17,5 @@ pub mod SampleRows
 pub mod Places
 pub mod Spaced
 pub mod CleanWords
+pub mod WordStarts
+pub mod Changes

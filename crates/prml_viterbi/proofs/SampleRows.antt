@@ -1,5 +1,5 @@
 -- The table of samples holds them, row by row.
-use Rattle.std.proofs.Common.{◌≡◌, ℕ, zero, suc, ◌+◌, ◌-◌, ◌*◌, ◌<◌, Bool, true, false, eqb, take, drop, get_or, pos, ◌-ℤ◌, ◌*ℤ◌, FitsSigned, w8, lit<, refl, sym, ap, ◌∙◌, arith}
+use Rattle.std.proofs.Common.{◌≡◌, ℕ, zero, suc, ◌+◌, ◌*◌, ◌<◌, Bool, true, false, eqb, take, drop, get_or, pos, ◌-ℤ◌, ◌*ℤ◌, FitsSigned, w8, lit<, refl, sym, ap, ◌∙◌, arith}
 use Rattle.std.specs.Int.{bit_at}
 use Rattle.std.specs.List.{flat_map, range_with_len}
 use Rattle.std.proofs.lemmas.List.{get_or-take, get_or-drop}

@@ -1,5 +1,5 @@
 -- The word that a detector is to find in samples.
-use Rattle.std.specs.Prelude.{◌≡◌, ◌⊎◌, ℕ, zero, suc, ◌+◌, ◌*◌, ◌<◌, Bool, List, length, ℤ, pos, negsuc, ◌-ℤ◌, unsigned_abs, slice_index_or}
+use Rattle.std.specs.Prelude.{◌≡◌, ◌↔◌, ◌⊎◌, ℕ, zero, suc, ◌+◌, ◌*◌, ◌<◌, Bool, List, length, ℤ, pos, negsuc, ◌-ℤ◌, unsigned_abs, slice_index_or}
 use Rattle.prml_viterbi.specs.Levels.{IsAllowed, channel_bits, clean_at, clean_samples}
 
 abbrev pub square : ℤ → ℕ
@@ -41,6 +41,15 @@ IsUnique = (samples word other : List ℤ) → IsDetected samples word → IsDet
 -- an allowed word is the detected word of its clean samples
 abbrev pub CleanSamplesTell : Type 0
 CleanSamplesTell = (word : List ℤ) → IsAllowed word → IsDetected (clean_samples word) word
+
+-- a word is at distance 0 from as many samples exactly where they are its clean ones, and no other word has the same
+pub record CleanSamplesHaveOneWord : Type 0 where
+  pub none_apart : (samples word : List ℤ) → length word ≡ length samples → (distance samples word ≡ 0) ↔ (samples ≡ clean_samples word)
+  pub one : (word other : List ℤ) → clean_samples word ≡ clean_samples other → word ≡ other
+
+-- an allowed word has these clean samples
+abbrev pub AreOfAllowed : List ℤ → Type 0
+AreOfAllowed samples = (word : List ℤ) × IsAllowed word × (samples ≡ clean_samples word)
 
 -- these are the channel bits of the word that is detected in the samples
 abbrev pub HaveDetectedBits : List ℤ → List Bool → Type 0

@@ -4,3 +4,4 @@ pub mod Trellis
 pub mod Sums
 pub mod Clean
 pub mod LevelBits
+pub mod Starts

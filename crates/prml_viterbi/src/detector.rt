@@ -1,5 +1,5 @@
 ghost use Rattle.std.specs.Prelude.{◌≡◌, ◌≤◌, length, IfOk};
-ghost use Rattle.prml_viterbi.specs.Detected.{IsDetected, IsUnique, CleanSamplesTell};
+ghost use Rattle.prml_viterbi.specs.Detected.{IsDetected, IsUnique, CleanSamplesTell, CleanSamplesHaveOneWord};
 
 use crate::shortcut::{are_clean, rebuild};
 use crate::trellis::{search, trace};
@@ -77,4 +77,9 @@ pub fn samples_have_one_detected_word()
 /// A law: reading clean samples gives back the word that was written.
 pub fn clean_samples_give_their_word_back()
     ensures { CleanSamplesTell }
+{}
+
+/// A law: distance 0 has one word. So an allowed word whose clean samples these are is the detected one.
+pub fn clean_samples_have_one_word()
+    ensures { CleanSamplesHaveOneWord }
 {}

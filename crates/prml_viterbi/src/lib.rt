@@ -7,13 +7,14 @@ mod detector;
 mod levels;
 mod sample_rows;
 mod shortcut;
+mod starts;
 mod trellis;
 mod word_samples;
 mod word_shortcut;
 
 pub use detector::{
-    Work, clean_samples_give_their_word_back, detect, detect_by_search,
-    samples_have_one_detected_word,
+    Work, clean_samples_give_their_word_back, clean_samples_have_one_word, detect,
+    detect_by_search, samples_have_one_detected_word,
 };
 pub use levels::{
     chan_of, levels_and_channel_bits_invert_each_other, levels_of, samples_of,

@@ -2,65 +2,27 @@
 
 ghost use Rattle.std.specs.Prelude.{◌≡◌, ◌↔◌, ℕ, ◌+◌, ◌*◌, ◌^◌, ◌<◌, ◌≤◌, List, ℤ, IsTrue, length, take};
 ghost use Rattle.bit_words.specs.Words.{word_bits};
-ghost use Rattle.prml_viterbi.specs.Detected.{HaveDetectedBits};
+ghost use Rattle.prml_viterbi.specs.Detected.{AreOfAllowed, HaveDetectedBits};
 ghost use Rattle.prml_viterbi.specs.Levels.{AreSpaced, level_word, clean_samples};
 ghost use Rattle.prml_viterbi.specs.LevelBits.{AreSamplesBy, IsApart};
 
+use crate::starts::write_starts;
 use crate::word_samples::{levels_after, sample_in_row, ten_levels};
-use std::simd::prelude::*;
 
 /// Writes the channel bits of the word that is detected in samples, if these are exactly clean, in words: bit k is bit k
-/// mod 64 of word k div 64. False where they aren't, and the words are of no use then. The samples that the bits give are
-/// held against those that were read: so it does not matter how the bits were found.
+/// mod 64 of word k div 64. False where they aren't, and the words are of no use then.
 pub fn channel_of_clean(samples: &[i8], words: &mut [u64]) -> bool
     requires { length samples.now ≤ 64 * length words.old }
-    ensures { IsTrue result → HaveDetectedBits samples.now (take (length samples.now) (word_bits words.new)) }
+    ensures clean { IsTrue result ↔ AreOfAllowed samples.now }
+    ensures bits { IsTrue result → HaveDetectedBits samples.now (take (length samples.now) (word_bits words.new)) }
 {
     write_starts(samples, words);
     are_spaced(words) && are_samples_of(samples, words)
 }
 
-/// Writes a 1 for each place where a sample isn't 0 and the one before it is. Where samples are clean the level changes
-/// there: the sample of a change and the next are not 0, and those around them are.
-fn write_starts(samples: &[i8], words: &mut [u64])
-    requires { length samples.now ≤ 64 * length words.old }
-{
-    let whole = samples.len() / 64;
-    let mut before = 0;
-    for j in 0..whole {
-        let moved = places_moved(&samples[64 * j..64 * j + 64]);
-        words[j] = moved & !(moved << 1 | before);
-        before = moved >> 63;
-    }
-    if 64 * whole < samples.len() {
-        let mut moved = 0u64;
-        for (k, sample) in samples[64 * whole..].iter().enumerate() {
-            moved |= u64::from(*sample != 0) << k;
-        }
-        words[whole] = moved & !(moved << 1 | before);
-    }
-}
-
-/// A 1 for each of 64 samples that isn't 0.
-#[inline(always)]
-fn places_moved(samples: &[i8]) -> u64
-    requires { length samples.now ≡ 64 }
-{
-    let none = i8x16::splat(0);
-    let first = i8x16::from_slice(&samples[..16]).simd_ne(none).to_bitmask();
-    let second = i8x16::from_slice(&samples[16..32])
-        .simd_ne(none)
-        .to_bitmask();
-    let third = i8x16::from_slice(&samples[32..48])
-        .simd_ne(none)
-        .to_bitmask();
-    let fourth = i8x16::from_slice(&samples[48..]).simd_ne(none).to_bitmask();
-    first | second << 16 | third << 32 | fourth << 48
-}
-
 /// Whether each 1 has two 0s before it.
 fn are_spaced(words: &[u64]) -> bool
-    ensures { IsTrue result → (n : ℕ) → AreSpaced (take n (word_bits words.now)) }
+    ensures { IsTrue result ↔ AreSpaced (word_bits words.now) }
 {
     let mut before = 0;
     for word in words {
@@ -76,7 +38,7 @@ fn are_spaced(words: &[u64]) -> bool
 #[inline(always)]
 fn is_apart(word: u64, before: u64) -> bool
     requires { before < 4 }
-    ensures { IsTrue result → IsApart word before }
+    ensures { IsTrue result ↔ IsApart word before }
 {
     let two_before = word % (1 << 62) * 4 + before;
     let one_before = word % (1 << 63) * 2 + before / 2;

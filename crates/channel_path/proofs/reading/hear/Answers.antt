@@ -7,7 +7,7 @@ use Rattle.channel_path.proofs.reading.hear.Goals as goal
 
 pub returns-then-channel_of_clean : goal.returns-then-channel_of_clean
 returns-then-channel_of_clean c =
-    let found = c.channel_of_clean.ensures c.if-channel_of_clean.true in
+    let found = c.channel_of_clean.ensures.bits c.if-channel_of_clean.true in
     let words = c.channel_of_clean.new.words in
     let long : 9478 ≡ length c.args.samples.now = omega arith in
     let bits : take 9478 (word_bits words) ≡ channel_bits found.0 = ap (λ n. take n (word_bits words)) long ∙ sym found.2 in

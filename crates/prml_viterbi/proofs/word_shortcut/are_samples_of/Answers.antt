@@ -1,10 +1,9 @@
-use Rattle.std.proofs.Common.{◌≡◌, ℕ, ◌+◌, ◌-◌, ◌*◌, ◌^◌, ◌/◌, ◌<◌, length, take, get_or, drop, pos, refl, sym, subst, ◌∙◌, length-drop, arith}
+use Rattle.std.proofs.Common.{◌≡◌, ℕ, ◌+◌, ◌-◌, ◌*◌, ◌/◌, ◌<◌, length, take, get_or, drop, pos, refl, sym, ◌∙◌, length-drop, arith}
 use Rattle.std.proofs.lemmas.Bool.{false≢true}
 use Rattle.std.proofs.lemmas.List.{length-take-le}
 use Rattle.bit_words.specs.Words.{word_bits}
-use Rattle.bit_words.proofs.BitLists.{length-word_bits}
 use Rattle.prml_viterbi.proofs.CleanWords.{AreCleanTo, clean_more, clean_part, clean_places, slice_place}
-use Rattle.prml_viterbi.proofs.LevelNumbers.{AreLevelsFrom, holds_bits, levels_from, levels_next, levels_none}
+use Rattle.prml_viterbi.proofs.LevelNumbers.{length-taken, levels_none, levels_of_word}
 use Rattle.prml_viterbi.proofs.Places.{all_samples}
 use Rattle.prml_viterbi.proofs.word_shortcut.are_samples_of.Goals as goal
 
@@ -22,15 +21,14 @@ returns-then-not-is_clean_word c =
     let n = length samples in
     let bits = take n (word_bits words) in
     let j = c.loop-j.j in
-    let before = c.loop-j.before in
+    let i = c.loop-j.invariant in
     let levels = c.levels_after-levels.result in
-    let t = 4 * levels + before in
-    let long : length bits ≡ n = length-take-le n (word_bits words) (omega (arith, length-word_bits words)) in
-    let all : AreLevelsFrom bits (64 * j) 66 t =
-    levels_from bits (64 * j) _ before levels c.loop-j.invariant.two (holds_bits words n j (omega arith) c.requires) c.levels_after-levels.ensures.levels c.loop-j.invariant.levels in (
+    let t = 4 * levels + c.loop-j.before in
+    let long : length bits ≡ n = length-taken words n c.requires in
+    let all = levels_of_word words n j j c.loop-j.before levels refl (omega arith) c.requires i.two c.levels_after-levels.ensures.levels i.levels in (
       λ no_way. absurd (false≢true no_way),
       λ is. absurd (false≢true (sym c.if-not-is_clean_word.true
-          ∙ c.is_clean_word.ensures.1 (clean_part samples _ bits (64 * j) t 64 n all (omega arith) (omega arith) (omega arith) (λ k less. slice_place samples (64 * j) _ k (omega arith)) (clean_places samples bits n long is)))),
+          ∙ c.is_clean_word.ensures.1 (clean_part samples _ bits (64 * j) t 64 n all.here (omega arith) (omega arith) (omega arith) (λ k less. slice_place samples (64 * j) _ k (omega arith)) (clean_places samples bits n long is)))),
     )
 
 pub loop-j-preserved : goal.loop-j-preserved
@@ -40,17 +38,15 @@ loop-j-preserved c =
     let n = length samples in
     let bits = take n (word_bits words) in
     let j = c.loop-j.j in
-    let before = c.loop-j.before in
+    let i = c.loop-j.invariant in
     let levels = c.levels_after-levels.result in
-    let t = 4 * levels + before in
-    let long : length bits ≡ n = length-take-le n (word_bits words) (omega (arith, length-word_bits words)) in
-    let all : AreLevelsFrom bits (64 * j) 66 t =
-    levels_from bits (64 * j) _ before levels c.loop-j.invariant.two (holds_bits words n j (omega arith) c.requires) c.levels_after-levels.ensures.levels c.loop-j.invariant.levels in
-    let next : 64 * j + 64 ≡ 64 * (j + 1) = omega arith in
+    let t = 4 * levels + c.loop-j.before in
+    let long : length bits ≡ n = length-taken words n c.requires in
+    let all = levels_of_word words n j j c.loop-j.before levels refl (omega arith) c.requires i.two c.levels_after-levels.ensures.levels i.levels in
     record {
       two = omega (arith, c.levels_after-levels.ensures.bound);
-      levels = subst (λ at. AreLevelsFrom bits at 2 (levels / 2 ^ 62)) next (levels_next bits (64 * j) levels before c.loop-j.invariant.two all);
-      clean = clean_more samples _ bits (64 * j) t 64 (64 * (j + 1)) all (omega arith) (omega arith) (omega arith) (λ k less. slice_place samples (64 * j) _ k (omega arith)) (c.is_clean_word.ensures.0 c.if-not-is_clean_word.false) c.loop-j.invariant.clean;
+      levels = all.next;
+      clean = clean_more samples _ bits (64 * j) t 64 (64 * (j + 1)) all.here (omega arith) (omega arith) (omega arith) (λ k less. slice_place samples (64 * j) _ k (omega arith)) (c.is_clean_word.ensures.0 c.if-not-is_clean_word.false) i.clean;
     }
 
 pub returns-then-whole-samples : goal.returns-then-whole-samples
@@ -58,8 +54,7 @@ returns-then-whole-samples c =
     let words = c.args.words.now in
     let samples = c.args.samples.now in
     let n = length samples in
-    let long : length (take n (word_bits words)) ≡ n = length-take-le n (word_bits words) (omega (arith, length-word_bits words)) in
-    (λ _. all_samples (take n (word_bits words)) samples n refl long (λ k less. c.loop-j.invariant.clean k (omega arith)), λ _. refl)
+    (λ _. all_samples (take n (word_bits words)) samples n refl (length-taken words n c.requires) (λ k less. c.loop-j.invariant.clean k (omega arith)), λ _. refl)
 
 pub returns : goal.returns
 returns c =
@@ -68,19 +63,15 @@ returns c =
     let n = length samples in
     let bits = take n (word_bits words) in
     let whole = n / 64 in
-    let before = c.loop-j.before in
     let levels = c.levels_after-levels-2.result in
-    let t = 4 * levels + before in
-    let long : length bits ≡ n = length-take-le n (word_bits words) (omega (arith, length-word_bits words)) in
-    let end : c.loop-j.j ≡ whole = omega arith in
-    let so_far : AreLevelsFrom bits (64 * whole) 2 before = subst (λ j. AreLevelsFrom bits (64 * j) 2 before) end c.loop-j.invariant.levels in
-    let all : AreLevelsFrom bits (64 * whole) 66 t =
-    levels_from bits (64 * whole) _ before levels c.loop-j.invariant.two (holds_bits words n whole (omega arith) c.requires) c.levels_after-levels-2.ensures.levels so_far in
+    let t = 4 * levels + c.loop-j.before in
+    let long : length bits ≡ n = length-taken words n c.requires in
+    let all = levels_of_word words n c.loop-j.j whole c.loop-j.before levels (omega arith) (omega arith) c.requires c.loop-j.invariant.two c.levels_after-levels-2.ensures.levels c.loop-j.invariant.levels in
     let clean : AreCleanTo samples bits (64 * whole) = λ k less. c.loop-j.invariant.clean k (omega arith) in
     let part = take (n - 64 * whole) (drop (64 * whole) samples) in
     let count = length part in
     let left : count ≡ n - 64 * whole = length-take-le (n - 64 * whole) (drop (64 * whole) samples) (omega (arith, length-drop (64 * whole) samples)) in
     let same : (k : ℕ) → k < count → get_or part k (pos 0) ≡ get_or samples (64 * whole + k) (pos 0) = λ k less. slice_place samples (64 * whole) (n - 64 * whole) k (omega arith) in (
-      λ yes. all_samples bits samples n refl long (clean_more samples part bits (64 * whole) t count n all (omega arith) (omega arith) (omega arith) same (c.is_clean_part.ensures.0 yes) clean),
-      λ is. c.is_clean_part.ensures.1 (clean_part samples part bits (64 * whole) t count n all (omega arith) (omega arith) (omega arith) same (clean_places samples bits n long is)),
+      λ yes. all_samples bits samples n refl long (clean_more samples part bits (64 * whole) t count n all.here (omega arith) (omega arith) (omega arith) same (c.is_clean_part.ensures.0 yes) clean),
+      λ is. c.is_clean_part.ensures.1 (clean_part samples part bits (64 * whole) t count n all.here (omega arith) (omega arith) (omega arith) same (clean_places samples bits n long is)),
     )

@@ -1,6 +1,6 @@
-use Rattle.std.proofs.Common.{refl, eqb-true}
-use Rattle.prml_viterbi.proofs.Spaced.{apart_from}
+use Rattle.std.proofs.Common.{refl, arith}
+use Rattle.prml_viterbi.proofs.Spaced.{Decides-apart}
 use Rattle.prml_viterbi.proofs.word_shortcut.is_apart.Goals as goal
 
 pub returns : goal.returns
-returns c = λ yes. apart_from c.args.word c.args.before _ _ c.requires refl refl (eqb-true _ _ yes)
+returns c = Decides-apart c.args.word c.args.before _ _ (omega arith) c.requires refl refl
