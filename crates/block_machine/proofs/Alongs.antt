@@ -1,5 +1,5 @@
 -- Rules along lists, and along pieces of them.
-use Rattle.std.proofs.Common.{◌≡◌, ◌∙◌, ap, sym, refl, Bool, true, List, [], ◌∷◌, ◌++◌}
+use Rattle.std.proofs.Common.{◌≡◌, ◌∙◌, ap, sym, refl, Bool, true, List, [], ◌∷◌, ◌++◌, append_assoc}
 use Rattle.std.specs.Prelude.{◌&&◌, fold}
 use Rattle.disk_base.specs.Along.{all_along}
 use Rattle.block_machine.proofs.Booleans.{and_assoc, and_both, both}
@@ -30,3 +30,9 @@ module _ {S T : Type 0} (step : S → T → S) where
   along_left p q s (x ∷ xs) h =
       let now = both (p s x && q s x) _ h in
       and_both (p s x) _ (both (p s x) (q s x) now.0).0 (along_left p q (step s x) xs now.1)
+
+-- a list parted at one of its items, and the first part again
+pub parted_twice : {X : Type 0} (all before between first after : List X) (x y : X) → all ≡ first ++ y ∷ after → first ≡ before ++ x ∷ between
+    → all ≡ before ++ x ∷ (between ++ y ∷ after)
+parted_twice all before between first after x y whole inner =
+    whole ∙ ap (λ (xs : List _). xs ++ y ∷ after) inner ∙ append_assoc before (x ∷ between) (y ∷ after)

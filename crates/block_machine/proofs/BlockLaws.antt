@@ -19,7 +19,7 @@ use Rattle.block_machine.specs.State.{state_at_start}
 use Rattle.block_machine.specs.History.{entries_of}
 use Rattle.block_machine.specs.Laws.{OfLegalHistories, IsLegal, renews, is_cut, newest_after, last_put, ReadsGiveWhatWasPutLast, HardenedValuesStay, FirstReadSettles, BeginningsAreLegal}
 use Rattle.block_machine.specs.Turns.{turn_after, turn_lawful}
-use Rattle.block_machine.proofs.Alongs.{along_first, along_second}
+use Rattle.block_machine.proofs.Alongs.{along_first, along_second, parted_twice}
 use Rattle.block_machine.proofs.Projection.{legal_blocks}
 use Rattle.block_machine.proofs.OneBlock.{block_after, block_allows, one_along, kept_along}
 use Rattle.block_machine.proofs.Booleans.{both, or_false}
@@ -152,13 +152,15 @@ module _ (b : ℕ) (s : BlockState) (before : List Entry) (e : Entry) (after : L
   part_after = (both (block_allows b (fold (block_after b) s before) e) _ part_behind).1
 
 pub reads_give_what_was_put_last : OfLegalHistories ReadsGiveWhatWasPutLast
-reads_give_what_was_put_last capacity waiting turns legal before after c b d is no_cut =
-    let h = block_along capacity waiting turns b.0 (before ++ Get c b (Data d) ∷ after) legal is in
+reads_give_what_was_put_last capacity waiting turns legal b get no_cut =
+    let before : List Entry = get.before in
+    let here : Entry = Get get.reader b (Data get.block) in
+    let h = block_along capacity waiting turns b.0 (before ++ here ∷ get.behind) legal get.whole in
     let i : Holds (fold (block_after b.0) (hardened_with zeros) before) (last_put b.0 before) =
     kept_along (block_after b.0) (block_allows b.0) (newest_after b.0) (λ e. not (is_cut e)) Holds (keeps_holds b.0)
-    (hardened_with zeros) zeros before (part_before b.0 (hardened_with zeros) before (Get c b (Data d)) after h) no_cut (clean refl) in
-    gives (fold (block_after b.0) (hardened_with zeros) before) (last_put b.0 before) d i
-    (allowed_here b.0 _ (part_here b.0 (hardened_with zeros) before (Get c b (Data d)) after h))
+    (hardened_with zeros) zeros before (part_before b.0 (hardened_with zeros) before here get.behind h) no_cut (clean refl) in
+    gives (fold (block_after b.0) (hardened_with zeros) before) (last_put b.0 before) get.block i
+    (allowed_here b.0 _ (part_here b.0 (hardened_with zeros) before here get.behind h))
 
 -- where a block is dirty, this is its newest value
 IsNewest : BlockState → Value → Type 0
@@ -275,17 +277,21 @@ changed_here b s u = ap (λ (t : Bool). cond t u s) (eq-eqb b b refl)
 
 pub hardened_values_stay : OfLegalHistories HardenedValuesStay
 unfolding IsNewest IsClean state_of
-hardened_values_stay capacity waiting turns legal before between after who c b d is q =
-    let h = block_along capacity waiting turns b.0 (before ++ Harden who b ∷ (between ++ Get c b (Data d) ∷ after)) legal is in
+hardened_values_stay capacity waiting turns legal b get harden q =
+    let before : List Entry = harden.before in
+    let here : Entry = Harden harden.who b in
+    let got : Entry = Get get.reader b (Data get.block) in
+    let rest : List Entry = harden.behind ++ got ∷ get.behind in
+    let h = block_along capacity waiting turns b.0 (before ++ here ∷ rest) legal
+    (parted_twice (entries_of turns) before harden.behind get.before get.behind here got get.whole harden.whole) in
     let s : BlockState = fold (block_after b.0) (hardened_with zeros) before in
-    let rest : List Entry = between ++ Get c b (Data d) ∷ after in
-    let dirty_then : is_dirty s ≡ true = allowed_here b.0 _ (part_here b.0 (hardened_with zeros) before (Harden who b) rest h) in
+    let dirty_then : is_dirty s ≡ true = allowed_here b.0 _ (part_here b.0 (hardened_with zeros) before here rest h) in
     let newest_then : newest s ≡ Some (last_put b.0 before) =
-    newest_along b.0 before (part_before b.0 (hardened_with zeros) before (Harden who b) rest h) dirty_then in
-    let clean_then : block_after b.0 s (Harden who b) ≡ hardened_with (last_put b.0 before) =
+    newest_along b.0 before (part_before b.0 (hardened_with zeros) before here rest h) dirty_then in
+    let clean_then : block_after b.0 s here ≡ hardened_with (last_put b.0 before) =
     changed_here b.0 s (after_harden s) ∙ ap (λ (o : Option Value). option_map_or hardened_with o s) newest_then in
-    read_clean b (block_after b.0 s (Harden who b)) (last_put b.0 before) between after c d
-    (part_after b.0 (hardened_with zeros) before (Harden who b) rest h) q clean_then
+    read_clean b (block_after b.0 s here) (last_put b.0 before) harden.behind get.behind get.reader get.block
+    (part_after b.0 (hardened_with zeros) before here rest h) q clean_then
 
 -- a block that isn't dirty
 IsQuiet : BlockState → Value → Type 0
@@ -338,18 +344,24 @@ got_clean s d e = ap (λ (t : Bool). cond t s (hardened_with (Data d))) e
 
 pub first_read_settles : OfLegalHistories FirstReadSettles
 unfolding IsClean
-first_read_settles capacity waiting turns legal before first between after b c1 c2 d1 d2 is q1 q2 =
-    let rest : List Entry = between ++ Get c2 b (Data d2) ∷ after in
-    let behind : List Entry = first ++ Get c1 b (Data d1) ∷ rest in
-    let h = block_along capacity waiting turns b.0 (before ++ Cut ∷ behind) legal is in
+first_read_settles capacity waiting turns legal b later earlier before since is q1 q2 =
+    let one : Entry = Get earlier.reader b (Data earlier.block) in
+    let two : Entry = Get later.reader b (Data later.block) in
+    let rest : List Entry = earlier.behind ++ two ∷ later.behind in
+    let behind : List Entry = since ++ one ∷ rest in
+    let whole : entries_of turns ≡ before ++ Cut ∷ behind =
+    parted_twice (entries_of turns) before since earlier.before rest Cut one
+    (parted_twice (entries_of turns) earlier.before earlier.behind later.before later.behind one two later.whole earlier.whole) is in
+    let h = block_along capacity waiting turns b.0 (before ++ Cut ∷ behind) legal whole in
     let s : BlockState = after_cut (fold (block_after b.0) (hardened_with zeros) before) in
     let h1 : all_along (block_after b.0) (block_allows b.0) s behind ≡ true = part_after b.0 (hardened_with zeros) before Cut behind h in
-    let u : BlockState = fold (block_after b.0) s first in
+    let u : BlockState = fold (block_after b.0) s since in
     let quiet : is_dirty u ≡ false =
-    stays_quiet b.0 s first (part_before b.0 s first (Get c1 b (Data d1)) rest h1) q1 (cut_quiet (fold (block_after b.0) (hardened_with zeros) before)) in
-    let settled : block_after b.0 u (Get c1 b (Data d1)) ≡ hardened_with (Data d1) = changed_here b.0 u (after_get u (Data d1)) ∙ got_clean u d1 quiet in
-    let same : Data d1 ≡ Data d2 =
-    read_clean b (block_after b.0 u (Get c1 b (Data d1))) (Data d1) between after c2 d2 (part_after b.0 s first (Get c1 b (Data d1)) rest h1) q2 settled in
+    stays_quiet b.0 s since (part_before b.0 s since one rest h1) q1 (cut_quiet (fold (block_after b.0) (hardened_with zeros) before)) in
+    let settled : block_after b.0 u one ≡ hardened_with (Data earlier.block) =
+    changed_here b.0 u (after_get u (Data earlier.block)) ∙ got_clean u earlier.block quiet in
+    let same : Data earlier.block ≡ Data later.block =
+    read_clean b (block_after b.0 u one) (Data earlier.block) earlier.behind later.behind later.reader later.block (part_after b.0 s since one rest h1) q2 settled in
     cc
 
 pub beginnings_are_legal : BeginningsAreLegal

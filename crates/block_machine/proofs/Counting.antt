@@ -19,7 +19,7 @@ use Rattle.block_machine.specs.Steps.{entry_after, entries_after, begun, task_ar
 use Rattle.block_machine.specs.Entries.{entry_lawful, is_owed, works_on}
 use Rattle.block_machine.specs.Turns.{named_by, are_aborted, is_answered, arrival_lawful, work_lawful, starts_alone, entries_lawful, tasks_lawful, turn_after}
 use Rattle.block_machine.specs.History.{task_legal_from, turns_after, entries_of}
-use Rattle.block_machine.specs.Laws.{OfTaskLegalHistories, Tally, tally_at_start, tally_after, left_out, is_end_of, CommandsAreAccountedFor, NoneEndsTwice}
+use Rattle.block_machine.specs.Laws.{Tally, tally_at_start, tally_after, left_out, CommandsAreAccountedFor}
 use Rattle.disk_base.specs.declared.address.Tag.{Tag}
 use Rattle.disk_base.specs.declared.command.Attribute.{Attribute}
 use Rattle.disk_base.specs.declared.command.DataOut.{DataOut}
@@ -243,22 +243,10 @@ left_last c (x ∷ xs) h =
     let now = none_of (x == c) _ h in
     left_out_one false c x (xs ++ c ∷ []) now.0 ∙ ap (λ (ys : List ℕ). x ∷ ys) (left_last c xs now.1)
 
-low_one : (t : Bool) (k c x : ℕ) (xs : List ℕ) → nat_eq x c ≡ t → x ≤ k → (t || has c xs) ≡ true → (has c xs ≡ true → c ≤ k) → c ≤ k
-low_one true k c x xs e le h f = let is : x ≡ c = eqb-true x c e in omega arith
-low_one false k c x xs e le h f = f h
-
 left_absent_one : (t : Bool) (c x : ℕ) (xs : List ℕ) → nat_eq x c ≡ t → has c (left_out c xs) ≡ false → has c (left_out c (x ∷ xs)) ≡ false
 unfolding has
 left_absent_one true c x xs e h = ap (λ (ys : List ℕ). has c ys) (left_out_one true c x xs e) ∙ h
 left_absent_one false c x xs e h = ap (λ (ys : List ℕ). has c ys) (left_out_one false c x xs e) ∙ neither (x == c) _ e h
-
--- one of some numbers of which all are at most this
-has_low : (k c : ℕ) (xs : List ℕ) → below k xs ≡ true → has c xs ≡ true → c ≤ k
-unfolding below has
-has_low k c [] h f = absurd (cc)
-has_low k c (x ∷ xs) h f =
-    let now = both (nat_le x k) _ h in
-    low_one (x == c) k c x xs refl (leb-true x k now.0) f (has_low k c xs now.1)
 
 -- one that is left out isn't among the rest
 pub left_absent : (c : ℕ) (xs : List ℕ) → has c (left_out c xs) ≡ false
@@ -266,29 +254,11 @@ unfolding has
 left_absent c [] = refl
 left_absent c (x ∷ xs) = left_absent_one (x == c) c x xs refl (left_absent c xs)
 
--- those that are gone aren't inside, also after one more goes
-gone_one : (t u : Bool) (c x : ℕ) (gone inside : List ℕ) → has x gone ≡ t → nat_eq c x ≡ u → ((x : ℕ) → has x gone ≡ true → has x inside ≡ false)
-    → has x (gone ++ c ∷ []) ≡ true → has x (left_out c inside) ≡ false
-gone_one true u c x gone inside e f apart h = has_less c x inside (apart x e)
-gone_one false true c x gone inside e f apart h = ap (λ (n : ℕ). has n (left_out c inside)) (sym (eqb-true c x f)) ∙ left_absent c inside
-gone_one false false c x gone inside e f apart h = absurd (true_not_false h (has_more x gone c e f))
-
-gone_more : (c : ℕ) (gone inside : List ℕ) → ((x : ℕ) → has x gone ≡ true → has x inside ≡ false) → (x : ℕ) → has x (gone ++ c ∷ []) ≡ true → has x (left_out c inside) ≡ false
-gone_more c gone inside apart x h = gone_one (has x gone) (nat_eq c x) c x gone inside refl refl apart h
-
--- one that is inside isn't gone
-not_gone : (t : Bool) (c : ℕ) (gone inside : List ℕ) → has c gone ≡ t → ((x : ℕ) → has x gone ≡ true → has x inside ≡ false) → has c inside ≡ true → has c gone ≡ false
-not_gone true c gone inside e apart h = absurd (true_not_false h (apart c e))
-not_gone false c gone inside e apart h = e
-
--- the commands inside are those of the set, none twice, and all are accounted for; none that is gone is inside or gone twice
+-- the commands inside are those of the set, none twice, and all are accounted for
 pub record Good (s : State) (t : Tally) : Type 0 where
   pub inside : t.inside ≡ numbers s.set
   pub once : distinct t.inside ≡ true
   pub low : below s.arrived t.inside ≡ true
-  pub gone_once : distinct t.gone ≡ true
-  pub gone_low : below s.arrived t.gone ≡ true
-  pub apart : (x : ℕ) → has x t.gone ≡ true → has x t.inside ≡ false
   pub sum : t.came ≡ t.ended + t.aborted + t.cut + length t.inside
 
 same_good : (s u : State) (t : Tally) → numbers u.set ≡ numbers s.set → u.arrived ≡ s.arrived → Good s t → Good u t
@@ -296,9 +266,6 @@ same_good s u t set arrived g = record {
   inside = g.inside ∙ sym set;
   once = g.once;
   low = ap (λ (k : ℕ). below k t.inside) arrived ∙ g.low;
-  gone_once = g.gone_once;
-  gone_low = ap (λ (k : ℕ). below k t.gone) arrived ∙ g.gone_low;
-  apart = g.apart;
   sum = g.sum;
 }
 
@@ -310,9 +277,6 @@ ended_good s u t c reply set arrived here g =
       inside = ap (left_out c) g.inside ∙ sym set;
       once = distinct_less c t.inside g.once;
       low = ap (λ (k : ℕ). below k (left_out c t.inside)) arrived ∙ below_less s.arrived c t.inside g.low;
-      gone_once = distinct_more t.gone c g.gone_once (not_gone _ c t.gone t.inside refl g.apart here);
-      gone_low = ap (λ (k : ℕ). below k (t.gone ++ c ∷ [])) arrived ∙ below_append s.arrived c t.gone (has_low s.arrived c t.inside g.low here) g.gone_low;
-      apart = gone_more c t.gone t.inside g.apart;
       sum = omega arith;
     }
 
@@ -324,9 +288,6 @@ aborted_good s u t c set arrived here g =
       inside = ap (left_out c) g.inside ∙ sym set;
       once = distinct_less c t.inside g.once;
       low = ap (λ (k : ℕ). below k (left_out c t.inside)) arrived ∙ below_less s.arrived c t.inside g.low;
-      gone_once = distinct_more t.gone c g.gone_once (not_gone _ c t.gone t.inside refl g.apart here);
-      gone_low = ap (λ (k : ℕ). below k (t.gone ++ c ∷ [])) arrived ∙ below_append s.arrived c t.gone (has_low s.arrived c t.inside g.low here) g.gone_low;
-      apart = gone_more c t.gone t.inside g.apart;
       sum = omega arith;
     }
 
@@ -344,7 +305,7 @@ good_work capacity label s (Ended c reply) t h g =
     (ap (λ (ns : List ℕ). has c ns) g.inside ∙ owes_in (member_of s.set c) s c _ refl owes) g
 good_work capacity label s Cut t h g =
     let sum : t.came ≡ t.ended + t.aborted + t.cut + length t.inside = g.sum in
-    record { inside = refl; once = refl; low = refl; gone_once = g.gone_once; gone_low = g.gone_low; apart = λ x k. refl; sum = omega arith }
+    record { inside = refl; once = refl; low = refl; sum = omega arith }
 good_work capacity label s (Arrived c i m a cdb sent) t h g = absurd (cc)
 good_work capacity label s (Aborted c) t h g = absurd (cc)
 good_work capacity label s other t h g = same_good s _ t refl refl g
@@ -387,12 +348,6 @@ good_arrival capacity i s false c [] t f is h g j m a cdb sent =
       inside = ap (λ (ns : List ℕ). ns ++ c ∷ []) g.inside ∙ sym set;
       once = distinct_more t.inside c g.once absent_c;
       low = below_append (s.arrived + 1) c t.inside (omega arith) (below_more s.arrived (s.arrived + 1) t.inside (omega arith) g.low);
-      gone_once = g.gone_once;
-      gone_low = below_more s.arrived (s.arrived + 1) t.gone (omega arith) g.gone_low;
-      apart = λ x k.
-          let low : x ≤ s.arrived = has_low s.arrived x t.gone g.gone_low k in
-          let other : c ≢ x = omega arith in
-          has_more x t.inside c (g.apart x k) (ne_eqb c x other);
       sum = omega arith;
     }
 good_arrival capacity i s true c (Ended k reply ∷ []) t f is h g j m a cdb sent =
@@ -407,10 +362,6 @@ good_arrival capacity i s true c (Ended k reply ∷ []) t f is h g j m a cdb sen
       inside = back ∙ sym set;
       once = ap distinct back ∙ g.once;
       low = ap (λ (ns : List ℕ). below (s.arrived + 1) ns) back ∙ below_more s.arrived (s.arrived + 1) t.inside (omega arith) g.low;
-      gone_once = distinct_more t.gone k g.gone_once (below_absent s.arrived k t.gone (omega arith) g.gone_low);
-      gone_low = below_append (s.arrived + 1) k t.gone (omega arith) (below_more s.arrived (s.arrived + 1) t.gone (omega arith) g.gone_low);
-      apart = λ x e. ap (λ (ns : List ℕ). has x ns) (back ∙ sym (absent k t.inside (below_absent s.arrived k t.inside (omega arith) g.low)))
-          ∙ gone_more k t.gone t.inside g.apart x e;
       sum = let long : length (left_out k (t.inside ++ c ∷ [])) ≡ length t.inside = ap length back in omega arith;
     }
 good_arrival capacity i s full c entries t f is h g j m a cdb sent = absurd (cc)
@@ -461,83 +412,6 @@ turns_good capacity s (turn ∷ turns) t h g =
 pub commands_are_accounted_for : CommandsAreAccountedFor
 unfolding distinct below has
 commands_are_accounted_for capacity waiting turns legal =
-    let start : Good (state_at_start waiting) tally_at_start = record { inside = refl; once = refl; low = refl; gone_once = refl; gone_low = refl; apart = λ x h. refl; sum = refl } in
+    let start : Good (state_at_start waiting) tally_at_start = record { inside = refl; once = refl; low = refl; sum = refl } in
     let g = turns_good capacity (state_at_start waiting) turns tally_at_start legal start in
     (g.sum, g.inside)
-
--- numbers with one more at their end
-has_front : (d : ℕ) (xs : List ℕ) (c : ℕ) → has d (xs ++ c ∷ []) ≡ false → (has d xs ≡ false) × (nat_eq c d ≡ false)
-unfolding has
-has_front d [] c h = (refl, (none_of (c == d) false h).0)
-has_front d (x ∷ xs) c h =
-    let now = none_of (x == d) _ h in
-    let later = has_front d xs c now.1 in
-    (neither (x == d) _ now.0 later.0, later.1)
-
-distinct_front : (xs : List ℕ) (c : ℕ) → distinct (xs ++ c ∷ []) ≡ true → (distinct xs ≡ true) × (has c xs ≡ false)
-unfolding distinct has
-distinct_front [] c h = (refl, refl)
-distinct_front (x ∷ xs) c h =
-    let now = both (not (has x (xs ++ c ∷ []))) _ h in
-    let here = has_front x xs c (not_is (has x (xs ++ c ∷ [])) now.0) in
-    let later = distinct_front xs c now.1 in
-    (and_both (not (has x xs)) _ (is_not _ here.0) later.0, neither (x == c) _ (ne_eqb x c (λ e. eqb-false c x here.1 (sym e))) later.1)
-
-has_last : (c : ℕ) (xs : List ℕ) → has c (xs ++ c ∷ []) ≡ true
-unfolding has
-has_last c [] = ap (λ (b : Bool). b || false) (eq-eqb c c refl)
-has_last c (x ∷ xs) = or_right (x == c) _ (has_last c xs)
-
-has_longer_one : (t : Bool) (c d : ℕ) (xs : List ℕ) → (t || has c xs) ≡ true → (has c xs ≡ true → has c (xs ++ d ∷ []) ≡ true) → (t || has c (xs ++ d ∷ [])) ≡ true
-has_longer_one true c d xs h f = refl
-has_longer_one false c d xs h f = f h
-
-has_longer : (c d : ℕ) (xs : List ℕ) → has c xs ≡ true → has c (xs ++ d ∷ []) ≡ true
-unfolding has
-has_longer c d [] h = absurd (cc)
-has_longer c d (x ∷ xs) h = has_longer_one (x == c) c d xs h (has_longer c d xs)
-
--- what is gone stays gone
-gone_after : (c : ℕ) (t : Tally) (e : Entry) → has c t.gone ≡ true → has c (tally_after t e).gone ≡ true
-gone_after c t (Ended d reply) h = has_longer c d t.gone h
-gone_after c t (Aborted d) h = has_longer c d t.gone h
-gone_after c t other h = h
-
-stays_gone : (c : ℕ) (t : Tally) (entries : List Entry) → has c t.gone ≡ true → has c (fold tally_after t entries).gone ≡ true
-stays_gone c t [] h = h
-stays_gone c t (e ∷ entries) h = stays_gone c (tally_after t e) entries (gone_after c t e h)
-
--- where none is gone twice in the end, none was before
-once_before : (t : Tally) (e : Entry) → distinct (tally_after t e).gone ≡ true → distinct t.gone ≡ true
-once_before t (Ended d reply) h = (distinct_front t.gone d h).0
-once_before t (Aborted d) h = (distinct_front t.gone d h).0
-once_before t other h = h
-
-once_first : (t : Tally) (entries : List Entry) → distinct (fold tally_after t entries).gone ≡ true → distinct t.gone ≡ true
-once_first t [] h = h
-once_first t (e ∷ entries) h = once_before t e (once_first (tally_after t e) entries h)
-
-end_is_gone : (c : ℕ) (t : Tally) (e : Entry) → is_end_of c e ≡ true → (tally_after t e).gone ≡ t.gone ++ c ∷ []
-end_is_gone c t (Ended d reply) h = ap (λ (n : ℕ). t.gone ++ n ∷ []) (eqb-true d c h)
-end_is_gone c t (Aborted d) h = ap (λ (n : ℕ). t.gone ++ n ∷ []) (eqb-true d c h)
-end_is_gone c t other h = absurd (cc)
-
-not_twice : (c : ℕ) (t : Tally) (one another : Entry) (between after : List Entry) → is_end_of c one ≡ true → is_end_of c another ≡ true
-    → distinct (fold tally_after t (one ∷ (between ++ another ∷ after))).gone ≡ true → ⊥
-not_twice c t one another between after h k d =
-    let then : Tally = fold tally_after (tally_after t one) between in
-    let all : distinct (fold tally_after (tally_after then another) after).gone ≡ true =
-    ap (λ (x : Tally). distinct x.gone) (sym (fold_both tally_after (tally_after t one) between (another ∷ after))) ∙ d in
-    let last : distinct (then.gone ++ c ∷ []) ≡ true = ap distinct (sym (end_is_gone c then another k)) ∙ once_first (tally_after then another) after all in
-    let gone : has c then.gone ≡ true =
-    stays_gone c (tally_after t one) between (ap (λ (ns : List ℕ). has c ns) (end_is_gone c t one h) ∙ has_last c t.gone) in
-    true_not_false gone (distinct_front then.gone c last).1
-
-pub none_ends_twice : OfTaskLegalHistories NoneEndsTwice
-unfolding distinct below has
-none_ends_twice capacity waiting turns legal before between after c one another is h k =
-    let start : Good (state_at_start waiting) tally_at_start = record { inside = refl; once = refl; low = refl; gone_once = refl; gone_low = refl; apart = λ x h. refl; sum = refl } in
-    let g = turns_good capacity (state_at_start waiting) turns tally_at_start legal start in
-    not_twice c (fold tally_after tally_at_start before) one another between after h k
-    (ap (λ (x : Tally). distinct x.gone) (sym (fold_both tally_after tally_at_start before (one ∷ (between ++ another ∷ after))))
-    ∙ ap (λ (es : List Entry). distinct (fold tally_after tally_at_start es).gone) (sym is) ∙ g.gone_once)

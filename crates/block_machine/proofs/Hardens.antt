@@ -1,6 +1,6 @@
 -- What was put is hardened by a sync, and by a write that goes through; and then it stands.
 use Rattle.std.proofs.Common.{◌≡◌, ◌∙◌, ap, sym, refl, ℕ, zero, suc, ◌+◌, Bool, true, false, not, cond, nat_eq, List, [], ◌∷◌, ◌++◌, append_assoc}
-use Rattle.std.specs.Prelude.{◌&&◌, ◌||◌, fold}
+use Rattle.std.specs.Prelude.{◌&&◌, fold}
 use Rattle.std.specs.List.{list_all}
 use Rattle.std.proofs.lemmas.Bool.{eq-eqb, eqb-true}
 use Rattle.disk_base.specs.Along.{all_along}
@@ -19,13 +19,15 @@ use Rattle.block_machine.specs.Blocks.{blocks_at_start, zeros, hardened_with, is
 use Rattle.block_machine.specs.State.{state_at_start}
 use Rattle.block_machine.specs.Turns.{turn_after, tasks_lawful, blocks_lawful}
 use Rattle.block_machine.specs.History.{task_legal_from, entries_of}
+use Rattle.block_machine.specs.Parts.{Life, arrival, before_start, since_arrival, GetOf, PutOf, HardenOf}
 use Rattle.block_machine.specs.Laws.{OfLegalHistories, IsLegal, renews, is_cut, newest_after, last_put, Mark, Wrote, Forced, Found, marks_after, marks_of, written_through, is_forced}
 use Rattle.block_machine.specs.KeptValues.{pending_after, is_pending}
-use Rattle.block_machine.specs.Lives.{Life, arrival, before_start, SyncsHardenWhatWasPut, ForcedWritesStand, SyncedValuesStand}
-use Rattle.block_machine.specs.Stages.{Stage, Coming, Queued, AtWork, Gone, is_coming, cut_off, stage_after, may_end_at, fits_stage}
+use Rattle.block_machine.specs.Lives.{RenewalOf, SyncsHardenWhatWasPut, ForcedWritesStand, SyncedValuesStand}
+use Rattle.block_machine.specs.Stages.{Stage, Coming, Queued, AtWork, Gone, is_coming, cut_off, stage_after, fits_stage}
 use Rattle.block_machine.proofs.Alongs.{fold_both, along_left, along_second}
 use Rattle.block_machine.proofs.BlockLaws.{hardened_values_stay}
 use Rattle.block_machine.proofs.KeptValues.{newest_stays, pending_along, one_block}
+use Rattle.block_machine.proofs.Ends.{gone_for_good}
 use Rattle.block_machine.proofs.StageLaw.{entries_fit_their_stage}
 use Rattle.block_machine.proofs.SyncLaw.{syncs_find_each_block_hardened}
 use Rattle.block_machine.proofs.WriteLaw.{forced_writes_are_hardened}
@@ -41,42 +43,6 @@ all_parts q xs ys h = both (list_all q xs) (list_all q ys) (sym (all_both q xs y
 
 all_of_both : (q : Entry → Bool) (xs ys : List Entry) → list_all q xs ≡ true → list_all q ys ≡ true → list_all q (xs ++ ys) ≡ true
 all_of_both q xs ys h k = all_both q xs ys ∙ and_both (list_all q xs) (list_all q ys) h k
-
--- a command that is gone stays so
-gone_if : (t : Bool) (stage : Stage) → (not t || false) ≡ true → cond t stage Gone ≡ Gone
-gone_if true stage h = absurd (cc)
-gone_if false stage h = refl
-
-gone_same : (t : Bool) → cond t Gone Gone ≡ Gone
-gone_same true = refl
-gone_same false = refl
-
-gone_one : (c : ℕ) (e : Entry) → fits_stage c Gone e ≡ true → stage_after c Gone e ≡ Gone
-gone_one c (Arrived d i t a cdb sent) h = gone_if (nat_eq c d) Queued h
-gone_one c (Started d) h = gone_if (nat_eq c d) AtWork h
-gone_one c (Ended d reply) h = gone_same (nat_eq c d)
-gone_one c (Aborted d) h = gone_same (nat_eq c d)
-gone_one c Cut h = refl
-gone_one c other h = refl
-
-gone_stays : (c : ℕ) (entries : List Entry) → all_along (stage_after c) (fits_stage c) Gone entries ≡ true → fold (stage_after c) Gone entries ≡ Gone
-gone_stays c [] h = refl
-gone_stays c (e ∷ entries) h =
-    let now = both (fits_stage c Gone e) _ h in
-    let same = gone_one c e now.0 in
-    ap (λ (stage : Stage). fold (stage_after c) stage entries) same
-    ∙ gone_stays c entries (ap (λ (stage : Stage). all_along (stage_after c) (fits_stage c) stage entries) (sym same) ∙ now.1)
-
--- .. so it doesn't end
-gone_for_good : (c : ℕ) (reply : Reply) (entries behind : List Entry) → all_along (stage_after c) (fits_stage c) Gone (entries ++ Ended c reply ∷ behind) ≡ true → ⊥
-gone_for_good c reply [] behind h =
-    let no = (both (fits_stage c Gone (Ended c reply)) _ h).0 in
-    let never : false ≡ true = ap (λ (t : Bool). not t || may_end_at Gone reply) (sym (eq-eqb c c refl)) ∙ no in
-    cc
-gone_for_good c reply (e ∷ entries) behind h =
-    let now = both (fits_stage c Gone e) _ h in
-    gone_for_good c reply entries behind
-    (ap (λ (stage : Stage). all_along (stage_after c) (fits_stage c) stage (entries ++ Ended c reply ∷ behind)) (sym (gone_one c e now.0)) ∙ now.1)
 
 -- a command that came isn't still to come
 came_if : (t : Bool) (new stage : Stage) → is_coming new ≡ false → is_coming stage ≡ false → is_coming (cond t new stage) ≡ false
@@ -130,22 +96,15 @@ power_while_at_work capacity waiting turns legal life =
     let started : stage_after c stage (Started c) ≡ AtWork = ap (λ (t : Bool). cond t AtWork stage) (eq-eqb c c refl) in
     power_stays c life.reply AtWork life.during life.behind refl (ap (λ (x : Stage). all_along (stage_after c) (fits_stage c) x rest) (sym started) ∙ h.1)
 
--- a harden of a block among entries
-record HardenIn (a : Lba) (entries : List Entry) : Type 0 where
-  who : Who
-  part : List Entry
-  rest : List Entry
-  whole : entries ≡ part ++ Harden who a ∷ rest
-
-one_earlier : (a : Lba) (e : Entry) (entries : List Entry) → HardenIn a entries → HardenIn a (e ∷ entries)
-one_earlier a e entries i = record { who = i.who; part = e ∷ i.part; rest = i.rest; whole = ap (λ (es : List Entry). e ∷ es) i.whole }
+one_earlier : (a : Lba) (e : Entry) (entries : List Entry) → HardenOf a entries → HardenOf a (e ∷ entries)
+one_earlier a e entries i = record { who = i.who; before = e ∷ i.before; behind = i.behind; whole = ap (λ (es : List Entry). e ∷ es) i.whole }
 
 same_lba : (a b : Lba) → a.0 ≡ b.0 → a ≡ b
 same_lba a b e = ap (λ (n : ℕ). record { 0 = n }) e
 
-harden_here : (t : Bool) (a b : Lba) (who : Who) (entries : List Entry) → nat_eq a.0 b.0 ≡ t → (cond t false true ≡ true → HardenIn a entries) → HardenIn a (Harden who b ∷ entries)
+harden_here : (t : Bool) (a b : Lba) (who : Who) (entries : List Entry) → nat_eq a.0 b.0 ≡ t → (cond t false true ≡ true → HardenOf a entries) → HardenOf a (Harden who b ∷ entries)
 harden_here true a b who entries e f =
-    record { who = who; part = []; rest = entries; whole = ap (λ (x : Lba). Harden who x ∷ entries) (sym (same_lba a b (eqb-true a.0 b.0 e))) }
+    record { who = who; before = []; behind = entries; whole = ap (λ (x : Lba). Harden who x ∷ entries) (sym (same_lba a b (eqb-true a.0 b.0 e))) }
 harden_here false a b who entries e f = one_earlier a (Harden who b) entries (f refl)
 
 true_if : (t : Bool) → cond t true true ≡ true
@@ -153,7 +112,7 @@ true_if true = refl
 true_if false = refl
 
 -- what was pending and isn't any more was hardened, where the power stayed on
-hardened_since : (a : Lba) (entries : List Entry) → fold (pending_after a.0) true entries ≡ false → list_all (λ e. not (is_cut e)) entries ≡ true → HardenIn a entries
+hardened_since : (a : Lba) (entries : List Entry) → fold (pending_after a.0) true entries ≡ false → list_all (λ e. not (is_cut e)) entries ≡ true → HardenOf a entries
 hardened_since a [] h k = absurd (cc)
 hardened_since a (Put c b v ∷ entries) h k =
     one_earlier a (Put c b v) entries (hardened_since a entries (ap (λ (p : Bool). fold (pending_after a.0) p entries) (sym (true_if (nat_eq a.0 b.0))) ∙ h) k)
@@ -164,11 +123,13 @@ hardened_since a (Harden who b ∷ entries) h k =
 hardened_since a (Cut ∷ entries) h k = absurd (cc)
 hardened_since a (e ∷ entries) h k = one_earlier a e entries (hardened_since a entries h (both (not (is_cut e)) _ k).1)
 
--- something is pending after a put
-put_pends : (c : ℕ) (a : Lba) (v : List ℕ) (pending : Bool) → pending_after a.0 pending (Put c a v) ≡ true
-put_pends c a v pending = ap (λ (t : Bool). cond t true pending) (eq-eqb a.0 a.0 refl)
+-- something is pending after an entry that renews the block
+renewal_pends : (b : ℕ) (pending : Bool) (e : Entry) → renews b e ≡ true → pending_after b pending e ≡ true
+renewal_pends b pending (Put c a v) h = ap (λ (t : Bool). cond t true pending) h
+renewal_pends b pending (GiveUp a) h = ap (λ (t : Bool). cond t true pending) h
+renewal_pends b pending other h = absurd (cc)
 
--- entries from a put on
+-- entries from a renewal on
 from_put : (before since rest : List Entry) (put start : Entry) → (before ++ put ∷ since) ++ start ∷ rest ≡ before ++ put ∷ (since ++ start ∷ rest)
 from_put before since rest put start = simp append_assoc
 
@@ -179,33 +140,33 @@ further_harden : (part rest more : List Entry) (harden : Entry) → (part ++ har
 further_harden part rest more harden = simp append_assoc
 
 pub syncs_harden_what_was_put : OfLegalHistories SyncsHardenWhatWasPut
-syncs_harden_what_was_put capacity waiting turns legal sync b n before since c a v asks success low high is no_cut =
+syncs_harden_what_was_put capacity waiting turns legal a sync renewal asks success no_cut =
     let x = sync.command in
     let start : Entry = Started x.number in
+    let e : Entry = renewal.entry in
+    let before : List Entry = renewal.before in
+    let since : List Entry = renewal.behind in
     let task_legal = along_left (turn_after capacity) (tasks_lawful capacity) (λ s turn. blocks_lawful capacity s.blocks turn.entries) (state_at_start waiting) turns legal in
-    let m = syncs_find_each_block_hardened capacity waiting turns legal sync.before sync.queued sync.during sync.behind x.number x.initiator x.tag x.attribute x.cdb x.sent sync.reply
-    b n a.0 sync.whole asks success low high in
-    let part : List Entry = m.0 in
-    let rest : List Entry = m.1 in
-    let whole : sync.during ≡ part ++ rest = m.2 in
-    let until : List Entry = sync.before ++ arrival x ∷ (sync.queued ++ start ∷ part) in
-    let order : until ≡ before ++ Put c a v ∷ (since ++ start ∷ part) =
-    in_order sync.before sync.queued part (arrival x) start ∙ ap (λ (es : List Entry). es ++ start ∷ part) is ∙ from_put before since part (Put c a v) start in
+    let m = syncs_find_each_block_hardened capacity waiting turns legal sync a.0 asks success in
+    let until : List Entry = sync.before ++ arrival x ∷ (sync.queued ++ start ∷ m.part) in
+    let order : until ≡ before ++ e ∷ (since ++ start ∷ m.part) =
+    in_order sync.before sync.queued m.part (arrival x) start ∙ ap (λ (es : List Entry). es ++ start ∷ m.part) renewal.whole ∙ from_put before since m.part e start in
     let clean : is_pending a.0 until ≡ false =
-    sym (pending_along a.0 (hardened_with zeros) until) ∙ ap is_dirty (sym (one_block a.0 blocks_at_start until)) ∙ m.3 in
-    let then : fold (pending_after a.0) true (since ++ start ∷ part) ≡ false =
-    ap (λ (p : Bool). fold (pending_after a.0) p (since ++ start ∷ part)) (sym (put_pends c a v (is_pending a.0 before)))
-    ∙ sym (fold_both (pending_after a.0) false before (Put c a v ∷ (since ++ start ∷ part)))
+    sym (pending_along a.0 (hardened_with zeros) until) ∙ ap is_dirty (sym (one_block a.0 blocks_at_start until)) ∙ m.clean in
+    let then : fold (pending_after a.0) true (since ++ start ∷ m.part) ≡ false =
+    ap (λ (p : Bool). fold (pending_after a.0) p (since ++ start ∷ m.part)) (sym (renewal_pends a.0 (is_pending a.0 before) e renewal.renewing))
+    ∙ sym (fold_both (pending_after a.0) false before (e ∷ (since ++ start ∷ m.part)))
     ∙ ap (λ (es : List Entry). is_pending a.0 es) (sym order) ∙ clean in
-    let on : list_all (λ e. not (is_cut e)) part ≡ true =
-    (all_parts (λ e. not (is_cut e)) part rest (ap (λ (es : List Entry). list_all (λ e. not (is_cut e)) es) (sym whole) ∙ power_while_at_work capacity waiting turns task_legal sync)).0 in
-    let h = hardened_since a (since ++ start ∷ part) then (all_of_both (λ e. not (is_cut e)) since (start ∷ part) no_cut on) in (
-      h.who,
-      h.part,
-      h.rest ++ rest,
-      ap (λ (es : List Entry). since ++ start ∷ es) whole ∙ further since part rest start ∙ ap (λ (es : List Entry). es ++ rest) h.whole
-          ∙ further_harden h.part h.rest rest (Harden h.who a),
-    )
+    let on : list_all (λ e. not (is_cut e)) m.part ≡ true =
+    (all_parts (λ e. not (is_cut e)) m.part m.rest (ap (λ (es : List Entry). list_all (λ e. not (is_cut e)) es) (sym m.whole) ∙ power_while_at_work capacity waiting turns task_legal sync)).0 in
+    let h = hardened_since a (since ++ start ∷ m.part) then (all_of_both (λ e. not (is_cut e)) since (start ∷ m.part) no_cut on) in
+    record {
+      who = h.who;
+      before = h.before;
+      behind = h.behind ++ m.rest;
+      whole = ap (λ (es : List Entry). since ++ start ∷ es) m.whole ∙ further since m.part m.rest start ∙ ap (λ (es : List Entry). es ++ m.rest) h.whole
+          ∙ further_harden h.before h.behind m.rest (Harden h.who a);
+    }
 
 -- a value that was put and hardened stands
 last_is : (before since : List Entry) (c : ℕ) (a : Lba) (v : List ℕ) → list_all (λ e. not (renews a.0 e)) since ≡ true → last_put a.0 (before ++ Put c a v ∷ since) ≡ Data v
@@ -214,54 +175,69 @@ last_is before since c a v none =
     ∙ ap (λ (t : Bool). fold (newest_after a.0) (cond t (Data v) (last_put a.0 before)) since) (eq-eqb a.0 a.0 refl)
     ∙ newest_stays a.0 (Data v) since none
 
-behind_harden : (before part rest : List Entry) (put harden : Entry) → before ++ put ∷ (part ++ harden ∷ rest) ≡ (before ++ put ∷ part) ++ harden ∷ rest
-behind_harden before part rest put harden = simp append_assoc
-
-stands : (capacity : ℕ) (waiting : Waiting) (turns : List Turn) → IsLegal capacity waiting turns → (before part between rest : List Entry) (c d : ℕ) (who : Who) (a : Lba) (v w : List ℕ)
-    → entries_of turns ≡ before ++ Put c a v ∷ (part ++ Harden who a ∷ (between ++ Get d a (Data w) ∷ rest))
-    → list_all (λ e. not (renews a.0 e)) part ≡ true → list_all (λ e. not (renews a.0 e)) between ≡ true → w ≡ v
-stands capacity waiting turns legal before part between rest c d who a v w is none later =
-    let same : Data w ≡ Data v =
-    sym (hardened_values_stay capacity waiting turns legal (before ++ Put c a v ∷ part) between rest who d a w
-    (is ∙ behind_harden before part (between ++ Get d a (Data w) ∷ rest) (Put c a v) (Harden who a)) later)
-    ∙ last_is before part c a v none in
+-- .. until a later get, where nothing newer came
+stands : (capacity : ℕ) (waiting : Waiting) (turns : List Turn) → IsLegal capacity waiting turns → (a : Lba) (get : GetOf a (entries_of turns)) (harden : HardenOf a get.before) (put : PutOf a harden.before)
+    → list_all (λ e. not (renews a.0 e)) put.behind ≡ true → list_all (λ e. not (renews a.0 e)) harden.behind ≡ true → get.block ≡ put.block
+stands capacity waiting turns legal a get harden put none later =
+    let same : Data get.block ≡ Data put.block =
+    sym (hardened_values_stay capacity waiting turns legal a get harden later)
+    ∙ ap (λ (es : List Entry). last_put a.0 es) put.whole ∙ last_is put.before put.behind put.writer a put.block none in
     cc
 
-to_the_get : (rest between behind : List Entry) (end get : Entry) → rest ++ end ∷ (between ++ get ∷ behind) ≡ (rest ++ end ∷ between) ++ get ∷ behind
-to_the_get rest between behind end get = simp append_assoc
+to_the_get : (before stretch between rest : List Entry) (put end get : Entry)
+    → before ++ put ∷ (stretch ++ end ∷ (between ++ get ∷ rest)) ≡ (before ++ put ∷ (stretch ++ end ∷ between)) ++ get ∷ rest
+to_the_get before stretch between rest put end get = simp append_assoc
+
+to_the_harden : (before part over between : List Entry) (put harden end : Entry)
+    → before ++ put ∷ ((part ++ harden ∷ over) ++ end ∷ between) ≡ (before ++ put ∷ part) ++ harden ∷ (over ++ end ∷ between)
+to_the_harden before part over between put harden end = simp append_assoc
 
 -- a put, a harden behind it in the same stretch, and a later read
-harden_between : (capacity : ℕ) (waiting : Waiting) (turns : List Turn) → IsLegal capacity waiting turns → (before stretch part over between rest : List Entry) (c d : ℕ) (who : Who) (end : Entry)
-    (a : Lba) (v w : List ℕ)
-    → entries_of turns ≡ before ++ Put c a v ∷ (stretch ++ end ∷ (between ++ Get d a (Data w) ∷ rest)) → stretch ≡ part ++ Harden who a ∷ over
+harden_between : (capacity : ℕ) (waiting : Waiting) (turns : List Turn) → IsLegal capacity waiting turns → (before stretch between rest : List Entry) (c d : ℕ) (end : Entry)
+    (a : Lba) (v w : List ℕ) (harden : HardenOf a stretch)
+    → entries_of turns ≡ before ++ Put c a v ∷ (stretch ++ end ∷ (between ++ Get d a (Data w) ∷ rest))
     → list_all (λ e. not (renews a.0 e)) stretch ≡ true → not (renews a.0 end) ≡ true → list_all (λ e. not (renews a.0 e)) between ≡ true → w ≡ v
-harden_between capacity waiting turns legal before stretch part over between rest c d who end a v w is parts none ending later =
+harden_between capacity waiting turns legal before stretch between rest c d end a v w harden is none ending later =
     let q = λ (e : Entry). not (renews a.0 e) in
-    let split = all_parts q part (Harden who a ∷ over) (ap (λ (es : List Entry). list_all q es) (sym parts) ∙ none) in
-    stands capacity waiting turns legal before part (over ++ end ∷ between) rest c d who a v w
-    (is ∙ ap (λ (es : List Entry). before ++ Put c a v ∷ (es ++ end ∷ (between ++ Get d a (Data w) ∷ rest))) parts
-    ∙ ap (λ (es : List Entry). before ++ Put c a v ∷ es)
-    (further_harden part over (end ∷ (between ++ Get d a (Data w) ∷ rest)) (Harden who a)
-    ∙ ap (λ (es : List Entry). part ++ Harden who a ∷ es) (to_the_get over between rest end (Get d a (Data w)))))
-    split.0 (all_of_both q over (end ∷ between) split.1 (and_both (q end) _ ending later))
+    let put : Entry = Put c a v in
+    let here : Entry = Harden harden.who a in
+    let get : Entry = Get d a (Data w) in
+    let split = all_parts q harden.before (here ∷ harden.behind) (ap (λ (es : List Entry). list_all q es) (sym harden.whole) ∙ none) in
+    stands capacity waiting turns legal a
+    (record { reader = d; block = w; before = before ++ put ∷ (stretch ++ end ∷ between); behind = rest; whole = is ∙ to_the_get before stretch between rest put end get })
+    (record {
+      who = harden.who;
+      before = before ++ put ∷ harden.before;
+      behind = harden.behind ++ end ∷ between;
+      whole = ap (λ (es : List Entry). before ++ put ∷ (es ++ end ∷ between)) harden.whole ∙ to_the_harden before harden.before harden.behind between put here end;
+    })
+    (record { writer = c; block = v; before = before; behind = harden.before; whole = refl })
+    split.0 (all_of_both q harden.behind (end ∷ between) split.1 (and_both (q end) _ ending later))
 
 whole_from_put : (before since during more : List Entry) (put start : Entry) → (before ++ put ∷ since) ++ start ∷ (during ++ more) ≡ before ++ put ∷ ((since ++ start ∷ during) ++ more)
 whole_from_put before since during more put start = simp append_assoc
 
+-- a put of a block renews it
+abbrev put_renews : (a : Lba) (entries : List Entry) → PutOf a entries → RenewalOf a entries
+put_renews a entries put = record { entry = Put put.writer a put.block; renewing = eq-eqb a.0 a.0 refl; before = put.before; behind = put.behind; whole = put.whole }
+
 pub synced_values_stand : OfLegalHistories SyncedValuesStand
-synced_values_stand capacity waiting turns legal sync b n before since between rest c d a v w asks success low high is no_cut got none_since none_during none_between =
+synced_values_stand capacity waiting turns legal a sync put get asks success no_cut none_since none_during none_between =
     let x = sync.command in
     let start : Entry = Started x.number in
     let end : Entry = Ended x.number sync.reply in
+    let wrote : Entry = Put put.writer a put.block in
+    let got : Entry = Get get.reader a (Data get.block) in
     let q = λ (e : Entry). not (renews a.0 e) in
-    let h = syncs_harden_what_was_put capacity waiting turns legal sync b n before since c a v asks success low high is no_cut in
-    let order : entries_of turns ≡ before ++ Put c a v ∷ ((since ++ start ∷ sync.during) ++ end ∷ (between ++ Get d a (Data w) ∷ rest)) =
+    let stretch : List Entry = put.behind ++ start ∷ sync.during in
+    let harden : HardenOf a stretch = syncs_harden_what_was_put capacity waiting turns legal a sync (put_renews a (before_start sync) put) asks success no_cut in
+    let order : entries_of turns ≡ put.before ++ wrote ∷ (stretch ++ end ∷ (get.before ++ got ∷ get.behind)) =
     sync.whole ∙ in_order sync.before sync.queued (sync.during ++ end ∷ sync.behind) (arrival x) start
-    ∙ ap (λ (es : List Entry). es ++ start ∷ (sync.during ++ end ∷ sync.behind)) is
-    ∙ ap (λ (es : List Entry). (before ++ Put c a v ∷ since) ++ start ∷ (sync.during ++ end ∷ es)) got
-    ∙ whole_from_put before since sync.during (end ∷ (between ++ Get d a (Data w) ∷ rest)) (Put c a v) start in
-    harden_between capacity waiting turns legal before (since ++ start ∷ sync.during) h.1 h.2 between rest c d h.0 end a v w order h.3
-    (all_of_both q since (start ∷ sync.during) none_since none_during) refl none_between
+    ∙ ap (λ (es : List Entry). es ++ start ∷ (sync.during ++ end ∷ sync.behind)) put.whole
+    ∙ ap (λ (es : List Entry). (put.before ++ wrote ∷ put.behind) ++ start ∷ (sync.during ++ end ∷ es)) get.whole
+    ∙ whole_from_put put.before put.behind sync.during (end ∷ (get.before ++ got ∷ get.behind)) wrote start in
+    harden_between capacity waiting turns legal put.before stretch get.before get.behind put.writer get.reader end a put.block get.block harden order
+    (all_of_both q put.behind (start ∷ sync.during) none_since none_during) refl none_between
 
 -- whether a block was put by marks and not yet forced
 open_after : ℕ → Bool → Mark → Bool
@@ -317,10 +293,10 @@ opens_all c x g [] = refl
 opens_all c x g (e ∷ entries) = opens_all c x (marks_after c g e) entries ∙ ap (λ (p : Bool). fold (opens c x) p entries) (opens_one c x g e)
 
 -- what was put and is not unforced any more was hardened by the command
-forced_here : (t u : Bool) (c d : ℕ) (a b : Lba) (entries : List Entry) → nat_eq b.0 a.0 ≡ u → (cond t (cond u false true) true ≡ true → HardenIn a entries)
-    → HardenIn a (Harden (Command d) b ∷ entries)
+forced_here : (t u : Bool) (c d : ℕ) (a b : Lba) (entries : List Entry) → nat_eq b.0 a.0 ≡ u → (cond t (cond u false true) true ≡ true → HardenOf a entries)
+    → HardenOf a (Harden (Command d) b ∷ entries)
 forced_here true true c d a b entries e f =
-    record { who = Command d; part = []; rest = entries; whole = ap (λ (x : Lba). Harden (Command d) x ∷ entries) (same_lba b a (eqb-true b.0 a.0 e)) }
+    record { who = Command d; before = []; behind = entries; whole = ap (λ (x : Lba). Harden (Command d) x ∷ entries) (same_lba b a (eqb-true b.0 a.0 e)) }
 forced_here true false c d a b entries e f = one_earlier a (Harden (Command d) b) entries (f refl)
 forced_here false u c d a b entries e f = one_earlier a (Harden (Command d) b) entries (f refl)
 
@@ -329,7 +305,7 @@ still_open true true = refl
 still_open true false = refl
 still_open false u = refl
 
-forced_since : (c : ℕ) (a : Lba) (entries : List Entry) → fold (opens c a.0) true entries ≡ false → HardenIn a entries
+forced_since : (c : ℕ) (a : Lba) (entries : List Entry) → fold (opens c a.0) true entries ≡ false → HardenOf a entries
 unfolding opens
 forced_since c a [] h = absurd (cc)
 forced_since c a (Put d b v ∷ entries) h =
@@ -340,10 +316,10 @@ forced_since c a (Harden Drive b ∷ entries) h = one_earlier a (Harden Drive b)
 forced_since c a (e ∷ entries) h = one_earlier a e entries (forced_since c a entries h)
 
 -- a put of the command opens its block
-put_opens : (c : ℕ) (a : Lba) (v : List ℕ) (unforced : Bool) → opens c a.0 unforced (Put c a v) ≡ true
+put_opens : (c d : ℕ) (a : Lba) (v : List ℕ) (unforced : Bool) → d ≡ c → opens c a.0 unforced (Put d a v) ≡ true
 unfolding opens
-put_opens c a v unforced =
-    ap (λ (t : Bool). cond t (cond (nat_eq a.0 a.0) true unforced) unforced) (eq-eqb c c refl) ∙ ap (λ (t : Bool). cond t true unforced) (eq-eqb a.0 a.0 refl)
+put_opens c d a v unforced own =
+    ap (λ (t : Bool). cond t (cond (nat_eq a.0 a.0) true unforced) unforced) (eq-eqb c d (sym own)) ∙ ap (λ (t : Bool). cond t true unforced) (eq-eqb a.0 a.0 refl)
 
 at_put : (queued part since : List Entry) (start put : Entry) → queued ++ start ∷ (part ++ put ∷ since) ≡ (queued ++ start ∷ part) ++ put ∷ since
 at_put queued part since start put = simp append_assoc
@@ -353,28 +329,29 @@ whole_at_put : (first queued part since more : List Entry) (came start put : Ent
 whole_at_put first queued part since more came start put = simp append_assoc
 
 pub forced_writes_stand : OfLegalHistories ForcedWritesStand
-forced_writes_stand capacity waiting turns legal write b n part since between rest d a v w asks success is got none_since none_between =
+forced_writes_stand capacity waiting turns legal a write put get from count asks success own none_since none_between =
     let x = write.command in
     let c : ℕ = x.number in
     let start : Entry = Started c in
     let end : Entry = Ended c write.reply in
-    let put : Entry = Put c a v in
+    let wrote : Entry = Put put.writer a put.block in
+    let got : Entry = Get get.reader a (Data get.block) in
+    let since : List Entry = put.behind in
     let task_legal = along_left (turn_after capacity) (tasks_lawful capacity) (λ s turn. blocks_lawful capacity s.blocks turn.entries) (state_at_start waiting) turns legal in
-    let m = forced_writes_are_hardened capacity waiting turns task_legal write.before write.queued write.during write.behind c x.initiator x.tag x.attribute x.cdb x.sent write.reply
-    b n write.whole asks success in
-    let entries : List Entry = write.queued ++ start ∷ write.during in
-    let closed : fold (open_after a.0) false (marks_of c entries) ≡ false =
-    ap (λ (g : List Mark). fold (open_after a.0) false g) m.1 ∙ fold_both (open_after a.0) false (written_through b x.sent n) m.0
-    ∙ ap (λ (p : Bool). fold (open_after a.0) p m.0) (closed_through a.0 b n x.sent) ∙ closed_rest a.0 m.0 m.2 in
-    let earlier : List Entry = write.queued ++ start ∷ part in
-    let order : entries ≡ earlier ++ put ∷ since = ap (λ (es : List Entry). write.queued ++ start ∷ es) is ∙ at_put write.queued part since start put in
+    let m = forced_writes_are_hardened capacity waiting turns task_legal write from count asks success in
+    let closed : fold (open_after a.0) false (marks_of c (since_arrival write)) ≡ false =
+    ap (λ (g : List Mark). fold (open_after a.0) false g) m.1 ∙ fold_both (open_after a.0) false (written_through from x.sent count) m.0
+    ∙ ap (λ (p : Bool). fold (open_after a.0) p m.0) (closed_through a.0 from count x.sent) ∙ closed_rest a.0 m.0 m.2 in
+    let earlier : List Entry = write.queued ++ start ∷ put.before in
+    let order : since_arrival write ≡ earlier ++ wrote ∷ since =
+    ap (λ (es : List Entry). write.queued ++ start ∷ es) put.whole ∙ at_put write.queued put.before since start wrote in
     let then : fold (opens c a.0) true since ≡ false =
-    ap (λ (p : Bool). fold (opens c a.0) p since) (sym (put_opens c a v (fold (opens c a.0) false earlier)))
-    ∙ sym (fold_both (opens c a.0) false earlier (put ∷ since))
-    ∙ ap (λ (es : List Entry). fold (opens c a.0) false es) (sym order) ∙ sym (opens_all c a.0 [] entries) ∙ closed in
-    let h = forced_since c a since then in
-    let whole : entries_of turns ≡ (write.before ++ arrival x ∷ earlier) ++ put ∷ (since ++ end ∷ (between ++ Get d a (Data w) ∷ rest)) =
-    write.whole ∙ ap (λ (es : List Entry). write.before ++ arrival x ∷ (write.queued ++ start ∷ (es ++ end ∷ write.behind))) is
-    ∙ ap (λ (es : List Entry). write.before ++ arrival x ∷ (write.queued ++ start ∷ ((part ++ put ∷ since) ++ end ∷ es))) got
-    ∙ whole_at_put write.before write.queued part since (end ∷ (between ++ Get d a (Data w) ∷ rest)) (arrival x) start put in
-    harden_between capacity waiting turns legal (write.before ++ arrival x ∷ earlier) since h.part h.rest between rest c d h.who end a v w whole h.whole none_since refl none_between
+    ap (λ (p : Bool). fold (opens c a.0) p since) (sym (put_opens c put.writer a put.block (fold (opens c a.0) false earlier) own))
+    ∙ sym (fold_both (opens c a.0) false earlier (wrote ∷ since))
+    ∙ ap (λ (es : List Entry). fold (opens c a.0) false es) (sym order) ∙ sym (opens_all c a.0 [] (since_arrival write)) ∙ closed in
+    let whole : entries_of turns ≡ (write.before ++ arrival x ∷ earlier) ++ wrote ∷ (since ++ end ∷ (get.before ++ got ∷ get.behind)) =
+    write.whole ∙ ap (λ (es : List Entry). write.before ++ arrival x ∷ (write.queued ++ start ∷ (es ++ end ∷ write.behind))) put.whole
+    ∙ ap (λ (es : List Entry). write.before ++ arrival x ∷ (write.queued ++ start ∷ ((put.before ++ wrote ∷ since) ++ end ∷ es))) get.whole
+    ∙ whole_at_put write.before write.queued put.before since (end ∷ (get.before ++ got ∷ get.behind)) (arrival x) start wrote in
+    harden_between capacity waiting turns legal (write.before ++ arrival x ∷ earlier) since get.before get.behind put.writer get.reader end a put.block get.block
+    (forced_since c a since then) whole none_since refl none_between

@@ -22,7 +22,7 @@ use Rattle.block_machine.specs.Turns.{turn_after}
 use Rattle.block_machine.specs.History.{turns_after, entries_of}
 use Rattle.block_machine.specs.Laws.{OfLegalHistories, renews, is_cut, newest_after, values_after}
 use Rattle.block_machine.specs.KeptValues.{ReadsGiveTheirOwnWrite, pending_after, values_from, RuledOutValuesStayOut, DirtyBlocksArePending}
-use Rattle.block_machine.proofs.Alongs.{fold_both}
+use Rattle.block_machine.proofs.Alongs.{fold_both, parted_twice}
 use Rattle.block_machine.proofs.OneBlock.{block_after, block_allows, one_after, kept_along}
 use Rattle.block_machine.proofs.BlockLaws.{Holds, dirty, gives, keeps_holds, last_of, dirty_newest, changed_here, got_clean, cut_quiet, allowed_here, block_along, all_pass, part_before, part_here, part_after}
 use Rattle.block_machine.proofs.Values.{Within, keeps_within, hardened_within, given_found}
@@ -46,21 +46,25 @@ newest_stays b v (e ∷ entries) h =
     ap (λ (w : Value). fold (newest_after b) w entries) (newest_stays_one b v e now.0) ∙ newest_stays b v entries now.1
 
 pub reads_give_their_own_write : OfLegalHistories ReadsGiveTheirOwnWrite
-reads_give_their_own_write capacity waiting turns legal before between after c d b v w is no_cut none =
-    let rest : List Entry = between ++ Get d b (Data w) ∷ after in
-    let h = block_along capacity waiting turns b.0 (before ++ Put c b v ∷ rest) legal is in
+reads_give_their_own_write capacity waiting turns legal b get put no_cut none =
+    let before : List Entry = put.before in
+    let here : Entry = Put put.writer b put.block in
+    let got : Entry = Get get.reader b (Data get.block) in
+    let rest : List Entry = put.behind ++ got ∷ get.behind in
+    let h = block_along capacity waiting turns b.0 (before ++ here ∷ rest) legal
+    (parted_twice (entries_of turns) before put.behind get.before get.behind here got get.whole put.whole) in
     let s : BlockState = fold (block_after b.0) (hardened_with zeros) before in
-    let put_there : block_after b.0 s (Put c b v) ≡ after_put s (Data v) = changed_here b.0 s (after_put s (Data v)) in
-    let h1 : all_along (block_after b.0) (block_allows b.0) (block_after b.0 s (Put c b v)) rest ≡ true =
-    part_after b.0 (hardened_with zeros) before (Put c b v) rest h in
-    let u : BlockState = block_after b.0 s (Put c b v) in
-    let has : Holds u (Data v) = subst (λ (x : BlockState). Holds x (Data v)) (sym put_there) (dirty (last_of s.newer (Data v))) in
-    let i : Holds (fold (block_after b.0) u between) (fold (newest_after b.0) (Data v) between) =
+    let u : BlockState = block_after b.0 s here in
+    let put_there : u ≡ after_put s (Data put.block) = changed_here b.0 s (after_put s (Data put.block)) in
+    let h1 : all_along (block_after b.0) (block_allows b.0) u rest ≡ true = part_after b.0 (hardened_with zeros) before here rest h in
+    let has : Holds u (Data put.block) = subst (λ (x : BlockState). Holds x (Data put.block)) (sym put_there) (dirty (last_of s.newer (Data put.block))) in
+    let t : BlockState = fold (block_after b.0) u put.behind in
+    let i : Holds t (fold (newest_after b.0) (Data put.block) put.behind) =
     kept_along (block_after b.0) (block_allows b.0) (newest_after b.0) (λ e. not (is_cut e)) Holds (keeps_holds b.0)
-    u (Data v) between (part_before b.0 u between (Get d b (Data w)) after h1) no_cut has in
-    let same : Data w ≡ Data v =
-    sym (gives (fold (block_after b.0) u between) (fold (newest_after b.0) (Data v) between) w i (allowed_here b.0 _ (part_here b.0 u between (Get d b (Data w)) after h1)))
-    ∙ newest_stays b.0 (Data v) between none in
+    u (Data put.block) put.behind (part_before b.0 u put.behind got get.behind h1) no_cut has in
+    let same : Data get.block ≡ Data put.block =
+    sym (gives t (fold (newest_after b.0) (Data put.block) put.behind) get.block i (allowed_here b.0 _ (part_here b.0 u put.behind got get.behind h1)))
+    ∙ newest_stays b.0 (Data put.block) put.behind none in
     cc
 
 -- what a block's state becomes at an entry about it or about another
@@ -106,20 +110,25 @@ pending_along b s (e ∷ entries) =
     pending_along b (block_after b s e) entries ∙ ap (λ (p : Bool). fold (pending_after b) p entries) (one_pending b s e)
 
 pub ruled_out_values_stay_out : OfLegalHistories RuledOutValuesStayOut
-ruled_out_values_stay_out capacity waiting turns legal before between after c d b v w is quiet =
-    let rest : List Entry = between ++ Get d b (Data w) ∷ after in
-    let h = block_along capacity waiting turns b.0 (before ++ Get c b (Data v) ∷ rest) legal is in
+ruled_out_values_stay_out capacity waiting turns legal b later earlier quiet =
+    let before : List Entry = earlier.before in
+    let one : Entry = Get earlier.reader b (Data earlier.block) in
+    let two : Entry = Get later.reader b (Data later.block) in
+    let rest : List Entry = earlier.behind ++ two ∷ later.behind in
+    let v : Value = Data earlier.block in
+    let h = block_along capacity waiting turns b.0 (before ++ one ∷ rest) legal
+    (parted_twice (entries_of turns) before earlier.behind later.before later.behind one two later.whole earlier.whole) in
     let s : BlockState = fold (block_after b.0) (hardened_with zeros) before in
-    let h1 = part_after b.0 (hardened_with zeros) before (Get c b (Data v)) rest h in
-    let u : BlockState = block_after b.0 s (Get c b (Data v)) in
-    let settled : u ≡ hardened_with (Data v) =
-    changed_here b.0 s (after_get s (Data v)) ∙ got_clean s v (pending_along b.0 (hardened_with zeros) before ∙ quiet) in
-    let has : Within u (Data v ∷ []) = subst (λ (x : BlockState). Within x (Data v ∷ [])) (sym settled) (hardened_within (Data v) (Data v ∷ []) (λ f k. k)) in
-    let t : BlockState = fold (block_after b.0) u between in
-    let i : Within t (values_from b.0 (Data v) between) =
-    kept_along (block_after b.0) (block_allows b.0) (values_after b.0) (λ e. true) Within (keeps_within b.0) u (Data v ∷ []) between
-    (part_before b.0 u between (Get d b (Data w)) after h1) (all_pass between) has in
-    i.each w (given_found (is_dirty t) t w refl (allowed_here b.0 _ (part_here b.0 u between (Get d b (Data w)) after h1)))
+    let h1 = part_after b.0 (hardened_with zeros) before one rest h in
+    let u : BlockState = block_after b.0 s one in
+    let settled : u ≡ hardened_with v =
+    changed_here b.0 s (after_get s v) ∙ got_clean s earlier.block (pending_along b.0 (hardened_with zeros) before ∙ quiet) in
+    let has : Within u (v ∷ []) = subst (λ (x : BlockState). Within x (v ∷ [])) (sym settled) (hardened_within v (v ∷ []) (λ f k. k)) in
+    let t : BlockState = fold (block_after b.0) u earlier.behind in
+    let i : Within t (values_from b.0 v earlier.behind) =
+    kept_along (block_after b.0) (block_allows b.0) (values_after b.0) (λ e. true) Within (keeps_within b.0) u (v ∷ []) earlier.behind
+    (part_before b.0 u earlier.behind two later.behind h1) (all_pass earlier.behind) has in
+    i.each later.block (given_found (is_dirty t) t later.block refl (allowed_here b.0 _ (part_here b.0 u earlier.behind two later.behind h1)))
 
 -- the blocks of a state after entries, one by one
 pub one_block : (b : ℕ) (blocks : Blocks) (entries : List Entry) → fold blocks_after blocks entries b ≡ fold (block_after b) (blocks b) entries

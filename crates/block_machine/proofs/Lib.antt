@@ -17,6 +17,7 @@ pub mod OneCommand
 pub mod SinceStart
 pub mod Replies
 pub mod ReadLaw
+pub mod WriteSteps
 pub mod WriteLaw
 pub mod SyncLaw
 pub mod Counting
@@ -25,4 +26,5 @@ pub mod Starts
 pub mod KeptValues
 pub mod PutLaw
 pub mod StageLaw
+pub mod Ends
 pub mod Hardens

@@ -1,9 +1,7 @@
 -- A write of any kind that succeeds put each of its blocks.
-use Rattle.std.proofs.Common.{◌≡◌, ◌∙◌, ap, sym, subst, refl, ℕ, suc, ◌+◌, ◌-◌, ◌<◌, ◌≤◌, Bool, true, false, not, cond, nat_eq, nat_lt, List, [], ◌∷◌, ◌++◌, arith}
+use Rattle.std.proofs.Common.{◌≡◌, ◌∙◌, ap, sym, subst, refl, ℕ, suc, ◌+◌, ◌-◌, ◌<◌, ◌≤◌, Bool, true, false, not, cond, nat_eq, List, [], ◌∷◌, ◌++◌, arith}
 use Rattle.std.specs.Prelude.{◌&&◌, ◌||◌, ◌==◌, fold, unwrap_or, Option, Some, Result, Ok}
-use Rattle.std.specs.Str.{bytes_eq}
-use Rattle.std.proofs.lemmas.Bool.{eqb-true, ltb-true}
-use Rattle.std.proofs.lemmas.Slice.Eq.{bytes_eq-Decides}
+use Rattle.std.proofs.lemmas.Bool.{eqb-true}
 use Rattle.disk_base.specs.declared.block.Value.TheVariants.{Data, Lost}
 use Rattle.disk_base.specs.declared.command.DataOut.{DataOut}
 use Rattle.sense_data.specs.declared.sense.Sense.{Sense}
@@ -14,7 +12,7 @@ use Rattle.cdb_reader.specs.declared.plan.Plan.{Plan}
 use Rattle.cdb_reader.specs.declared.plan.Plan.TheVariants.{Ending, Unread, Answering, Changing, Reading, Writing, Syncing, Moving, Over}
 use Rattle.cdb_reader.specs.declared.plan.Deed.{Deed}
 use Rattle.cdb_reader.specs.declared.plan.Deed.TheVariants as deed
-use Rattle.cdb_reader.specs.Plan.{next, reading_from, writing_from, after_written, block_of}
+use Rattle.cdb_reader.specs.Plan.{next, reading_from, writing_from, after_written}
 use Rattle.cdb_reader.specs.Replies.{good, unrecovered_read}
 use Rattle.cdb_reader.specs.Request.{Request}
 use Rattle.cdb_reader.specs.Request as request
@@ -24,13 +22,15 @@ use Rattle.block_machine.specs.declared.entry.Entry.TheVariants.{Put, Harden, Pa
 use Rattle.block_machine.specs.State.{State, Duty, initiator_of}
 use Rattle.block_machine.specs.Plans.{first_plan, plan_unless_refused, refusing}
 use Rattle.block_machine.specs.Laws.{OfTaskLegalHistories, Mark, Wrote, Forced, Found, marks_after, marks_of, succeeds}
-use Rattle.block_machine.specs.Lives.{asked, Written, puts_after, blocks_sent, AsksToWrite, WritesPutEachBlockOnce}
+use Rattle.block_machine.specs.Lives.{Written, puts_after, blocks_sent, AsksToWrite, WritesPutEachBlockOnce}
+use Rattle.block_machine.specs.Parts.{asked}
 use Rattle.block_machine.proofs.Alongs.{fold_both}
-use Rattle.block_machine.proofs.Replies.{when_is, same_succeed, not_same, after_attention}
+use Rattle.block_machine.proofs.Replies.{when_is, same_succeed, not_same, at_start}
 use Rattle.block_machine.proofs.ReadLaw.{end_owed}
+use Rattle.block_machine.proofs.WriteSteps.{IsWithin, first_within, owing_within, next_within, last_one, sent_here, PutNext, put_next, harden_next, whole_at_end}
 use Rattle.block_machine.proofs.SinceStart.{Runs, from_its_start}
-use Rattle.block_machine.proofs.WriteLaw.{marks_by, marks, unmarked, writing_over}
-use Rattle.block_machine.proofs.Booleans.{both, not_is, true_not_false}
+use Rattle.block_machine.proofs.WriteLaw.{marks_by, marks, unmarked}
+use Rattle.block_machine.proofs.Booleans.{true_not_false}
 
 -- what was put, of the marks that a command left
 put_in : List Written → Mark → List Written
@@ -78,12 +78,8 @@ one_deed g other = refl
 
 -- the blocks put so far are the first ones of the range, the next included where it is still to be hardened
 record PutSoFar (b n : ℕ) (sent : DataOut) (w : writing.Writing) (h : List Written) : Type 0 where
-  from : w.from ≡ b
-  ends : w.end ≡ b + n
-  low : b ≤ w.at
-  high : w.at ≤ w.end
-  data_are : w.sent ≡ sent
-  put : w.owes_harden ≡ true → (w.at < w.end) × (h ≡ blocks_sent b sent (suc (w.at - b)))
+  within : IsWithin b n sent w
+  put : w.owes_harden ≡ true → h ≡ blocks_sent b sent (suc (w.at - b))
   so_far : w.owes_harden ≡ false → h ≡ blocks_sent b sent (w.at - b)
 
 -- what was put, by what a write still owes
@@ -96,55 +92,33 @@ Puts b n sent Over h = Unit {0}
 Puts b n sent other h = ⊥
 
 -- a block is put
-one_put : (b n a : ℕ) (sent : DataOut) (w : writing.Writing) (block : List ℕ) (h : List Written) → a ≡ w.at → w.owes_harden ≡ false
-    → bytes_eq block (block_of w.sent (w.at - w.from)) ≡ true → PutSoFar b n sent w h → h ++ record { at = a; block = block } ∷ [] ≡ blocks_sent b sent (suc (w.at - b))
-one_put b n a sent w block h is owes same i =
-    let low : b ≤ w.at = i.low in
+one_put : (b n a : ℕ) (sent : DataOut) (w : writing.Writing) (block : List ℕ) (full : Bool) (after : Plan) (h : List Written) → PutNext w a block full after → PutSoFar b n sent w h
+    → h ++ record { at = a; block = block } ∷ [] ≡ blocks_sent b sent (suc (w.at - b))
+one_put b n a sent w block full after h p i =
+    let low : b ≤ w.at = i.within.low in
+    let is : a ≡ w.at = p.here in
     let here : a ≡ b + (w.at - b) = omega arith in
-    let data_is : block ≡ block_of sent (w.at - b) =
-    (bytes_eq-Decides block _).0 same ∙ ap (λ (d : DataOut). block_of d (w.at - w.from)) i.data_are ∙ ap (λ (f : ℕ). block_of sent (w.at - f)) i.from in
     let done : List Written = blocks_sent b sent (w.at - b) in
-    ap (λ (xs : List Written). xs ++ record { at = a; block = block } ∷ []) (i.so_far owes)
+    ap (λ (xs : List Written). xs ++ record { at = a; block = block } ∷ []) (i.so_far p.idle)
     ∙ ap (λ (x : ℕ). done ++ record { at = x; block = block } ∷ []) here
-    ∙ ap (λ (x : List ℕ). done ++ record { at = b + (w.at - b); block = x } ∷ []) data_is
+    ∙ ap (λ (x : List ℕ). done ++ record { at = b + (w.at - b); block = x } ∷ []) (sent_here b n sent w block p.same i.within)
 
 -- what is owed after a block
-after_block : (last : Bool) (b n : ℕ) (sent : DataOut) (w : writing.Writing) (g h : List Written) → (w.verifies && w.at + 1 == w.end) ≡ last → w.at < w.end → PutSoFar b n sent w g
+after_block : (last : Bool) (b n : ℕ) (sent : DataOut) (w : writing.Writing) (h : List Written) → (w.verifies && w.at + 1 == w.end) ≡ last → w.at < w.end → IsWithin b n sent w
     → h ≡ blocks_sent b sent (suc (w.at - b))
     → Puts b n sent (cond last (reading_from w.from w.end true w.reports) (Writing (record w { at = w.at + 1; owes_harden = false }))) h
 unfolding Puts
-after_block true b n sent w g h e below i is =
-    let over : w.at + 1 ≡ w.end = eqb-true (w.at + 1) w.end (both w.verifies (w.at + 1 == w.end) e).1 in
-    let ends : w.end ≡ b + n = i.ends in
-    let low : b ≤ w.at = i.low in
-    let all : suc (w.at - b) ≡ n = omega arith in
-    is ∙ ap (λ (k : ℕ). blocks_sent b sent k) all
-after_block false b n sent w g h e below i is =
+after_block true b n sent w h e below i is = is ∙ ap (λ (k : ℕ). blocks_sent b sent k) (last_one b n sent w e i)
+after_block false b n sent w h e below i is =
     let low : b ≤ w.at = i.low in
     let more : suc (w.at - b) ≡ w.at + 1 - b = omega arith in
-    record {
-      from = i.from;
-      ends = i.ends;
-      low = omega arith;
-      high = omega arith;
-      data_are = i.data_are;
-      put = λ k. absurd (cc);
-      so_far = λ k. is ∙ ap (λ (k : ℕ). blocks_sent b sent k) more;
-    }
+    record { within = next_within b n sent w below i; put = λ k. absurd (cc); so_far = λ k. is ∙ ap (λ (k : ℕ). blocks_sent b sent k) more }
 
-put_next : (through : Bool) (b n : ℕ) (sent : DataOut) (w : writing.Writing) (g h : List Written) → w.at < w.end → PutSoFar b n sent w g → h ≡ blocks_sent b sent (suc (w.at - b))
+put_more : (through : Bool) (b n : ℕ) (sent : DataOut) (w : writing.Writing) (h : List Written) → w.at < w.end → IsWithin b n sent w → h ≡ blocks_sent b sent (suc (w.at - b))
     → Puts b n sent (cond through (Writing (record w { owes_harden = true })) (after_written w)) h
 unfolding Puts
-put_next true b n sent w g h below i is = record {
-  from = i.from;
-  ends = i.ends;
-  low = i.low;
-  high = i.high;
-  data_are = i.data_are;
-  put = λ k. (below, is);
-  so_far = λ k. absurd (cc);
-}
-put_next false b n sent w g h below i is = after_block (w.verifies && w.at + 1 == w.end) b n sent w g h refl below i is
+put_more true b n sent w h below i is = record { within = owing_within b n sent w i; put = λ k. is; so_far = λ k. absurd (cc) }
+put_more false b n sent w h below i is = after_block (w.verifies && w.at + 1 == w.end) b n sent w h refl below i is
 
 -- each deed of a write keeps that
 puts_next : (b n : ℕ) (sent : DataOut) (plan : Plan) (what : Deed) (after : Plan) (h : List Written) → next plan what ≡ Some after → Puts b n sent plan h
@@ -158,18 +132,13 @@ puts_next b n sent (Reading r) (deed.Got a Lost dirty) after h k i = subst (λ (
 puts_next b n sent (Reading r) (deed.Got a (Data v) dirty) after h k i = subst (λ (p : Plan). Puts b n sent p h) (when_is _ _ _ k).1 i
 puts_next b n sent (Reading r) (deed.Hardened a) after h k i = subst (λ (p : Plan). Puts b n sent p h) (when_is _ _ _ k).1 i
 puts_next b n sent (Writing w) (deed.Put a block full) after h k i =
-    let may = when_is _ _ _ k in
-    let p3 = both (not w.owes_harden && a.0 == w.at && nat_lt w.at w.end) _ may.0 in
-    let p2 = both (not w.owes_harden && a.0 == w.at) _ p3.0 in
-    let p1 = both (not w.owes_harden) _ p2.0 in
-    subst (λ (p : Plan). Puts b n sent p (h ++ record { at = a.0; block = block } ∷ [])) may.1
-    (put_next (w.through || full) b n sent w h _ (ltb-true w.at w.end p2.1) i (one_put b n a.0 sent w block h (eqb-true a.0 w.at p1.1) (not_is w.owes_harden p1.0) p3.1 i))
+    let p = put_next w a block full after k in
+    subst (λ (p : Plan). Puts b n sent p (h ++ record { at = a.0; block = block } ∷ [])) p.leaves
+    (put_more (w.through || full) b n sent w _ p.below i.within (one_put b n a.0 sent w block full after h p i))
 puts_next b n sent (Writing w) (deed.Hardened a) after h k i =
-    let may = when_is _ _ _ k in
-    let p2 = both (w.owes_harden && a.0 == w.at) _ may.0 in
-    let p1 = both w.owes_harden _ p2.0 in
-    subst (λ (p : Plan). Puts b n sent p h) may.1
-    (after_block (w.verifies && w.at + 1 == w.end) b n sent w h h refl (ltb-true w.at w.end p2.1) i (i.put p1.0).1)
+    let p = harden_next w a after k in
+    subst (λ (p : Plan). Puts b n sent p h) p.leaves
+    (after_block (w.verifies && w.at + 1 == w.end) b n sent w h refl p.below i.within (i.put p.owing))
 puts_next b n sent (Answering bytes reply) what after h k i = absurd i
 puts_next b n sent Changing what after h k i = absurd i
 puts_next b n sent (Syncing s) what after h k i = absurd i
@@ -185,11 +154,7 @@ starts_writing false true through verifies reports b n sent e = λ h. ap (λ (k 
 starts_writing false false through verifies reports b n sent e =
     let none : b - b ≡ 0 = omega arith in
     record {
-      from = refl;
-      ends = refl;
-      low = omega arith;
-      high = omega arith;
-      data_are = refl;
+      within = first_within b n sent _ refl refl refl refl;
       put = λ h. absurd (cc);
       so_far = λ h. ap (λ (k : ℕ). blocks_sent b sent k) (sym none);
     }
@@ -198,9 +163,7 @@ begins_with : (capacity : ℕ) (s : State) (i : ℕ) (duty : Duty) (asks : Resul
     → Puts b n sent (plan_unless_refused capacity s i duty.sent asks) [] → Puts b n sent (first_plan capacity s i duty) []
 unfolding Puts
 begins_with capacity s i duty asks b n sent e h =
-    after_attention (λ (plan : Plan). Puts b n sent plan []) (λ sense f k. absurd (true_not_false k f)) s.waiting i duty.code _ refl
-    (plan_unless_refused capacity s i duty.sent duty.asks)
-    (subst (λ (x : Result Request Sense). Puts b n sent (plan_unless_refused capacity s i duty.sent x) []) (sym e) h)
+    at_start (λ (plan : Plan). Puts b n sent plan []) (λ sense f k. absurd (true_not_false k f)) capacity s i duty asks e h
 
 asks_to_write : (asks : Result Request Sense) (capacity : ℕ) (s : State) (i : ℕ) (sent : DataOut) (b n : ℕ) → AsksToWrite asks b n
     → Puts b n sent (plan_unless_refused capacity s i sent asks) []
@@ -217,11 +180,8 @@ put_at_end b n sent (Ending x) after reply dirty h k success i = i (sym (same_su
 put_at_end b n sent (Unread a) after reply dirty h k success i = absurd (not_same reply (unrecovered_read a) (when_is _ _ _ k).0 success refl)
 put_at_end b n sent (Reading r) after reply dirty h k success i = i
 put_at_end b n sent (Writing w) after reply dirty h k success i =
-    let may = both (not w.owes_harden) _ (when_is _ _ _ k).0 in
-    let over : w.at ≡ w.end = writing_over _ w reply refl may.1 success in
-    let ends : w.end ≡ b + n = i.ends in
-    let all : w.at - b ≡ n = omega arith in
-    i.so_far (not_is w.owes_harden may.0) ∙ ap (λ (m : ℕ). blocks_sent b sent m) all
+    let whole = whole_at_end b n sent w after reply dirty k success i.within in
+    i.so_far whole.0 ∙ ap (λ (m : ℕ). blocks_sent b sent m) whole.1
 put_at_end b n sent Over after reply dirty h k success i = absurd (cc)
 put_at_end b n sent (Answering bytes answer) after reply dirty h k success i = absurd i
 put_at_end b n sent Changing after reply dirty h k success i = absurd i

@@ -15,7 +15,6 @@ use Rattle.cdb_reader.specs.declared.plan.Deed.{Deed}
 use Rattle.cdb_reader.specs.declared.plan.Deed.TheVariants as deed
 use Rattle.cdb_reader.specs.Plan.{next, reading_from}
 use Rattle.cdb_reader.specs.Replies.{good, unrecovered_read, medium_error, same_reply, is_write_error, is_recovered}
-use Rattle.cdb_reader.specs.Read.{read_of}
 use Rattle.cdb_reader.specs.Request.{Request, ReadDefectData}
 use Rattle.cdb_reader.specs.Request as request
 use Rattle.block_machine.specs.declared.entry.Who.TheVariants.{Command}
@@ -30,7 +29,8 @@ use Rattle.block_machine.specs.Deeds.{Done, done, done_by, page_done, names_dirt
 use Rattle.block_machine.specs.Entries.{is_owed, works_on}
 use Rattle.block_machine.specs.Turns.{task_set_full}
 use Rattle.block_machine.specs.Laws.{OfTaskLegalHistories, got_after, blocks_got, succeeds, AsksToRead, ReadsGetEachBlockOnce}
-use Rattle.block_machine.proofs.Replies.{when_is, same_succeed, not_same, after_attention}
+use Rattle.block_machine.specs.Parts.{asked}
+use Rattle.block_machine.proofs.Replies.{when_is, same_succeed, not_same, at_start}
 use Rattle.block_machine.proofs.OneCommand.{NotBy, OkCases, arriving, working, Owed, owed, until_its_end}
 use Rattle.block_machine.proofs.Booleans.{both, true_not_false}
 
@@ -152,9 +152,7 @@ begins_with : (capacity : ℕ) (s : State) (i : ℕ) (duty : Duty) (asks : Resul
     → Read b n (Some (plan_unless_refused capacity s i duty.sent asks)) g → Read b n (Some (first_plan capacity s i duty)) g
 unfolding Read
 begins_with capacity s i duty asks b n g e h =
-    after_attention (λ (plan : Plan). Read b n (Some plan) g) (λ sense f k. absurd (true_not_false k f)) s.waiting i duty.code _ refl
-    (plan_unless_refused capacity s i duty.sent duty.asks)
-    (subst (λ (x : Result Request Sense). Read b n (Some (plan_unless_refused capacity s i duty.sent x)) g) (sym e) h)
+    at_start (λ (plan : Plan). Read b n (Some plan) g) (λ sense f k. absurd (true_not_false k f)) capacity s i duty asks e h
 
 -- a command that asks to read so many blocks owes that
 asks_to_read : (asks : Result Request Sense) (capacity : ℕ) (s : State) (i : ℕ) (sent : DataOut) (b n : ℕ) (g : List ℕ) → AsksToRead asks b n → g ≡ []
@@ -207,13 +205,16 @@ end_owed capacity c label s reply (working h) k =
 
 pub reads_get_each_block_once : OfTaskLegalHistories ReadsGetEachBlockOnce
 unfolding Read
-reads_get_each_block_once capacity waiting turns legal first between after c i t a cdb sent reply b n is asks success =
-    let end = until_its_end capacity c (read_of cdb sent capacity) sent (got_after c) (Read b n) (λ label s e g h. idle label s e c g h)
-    (λ s duty g e f nothing. begins_with capacity s (initiator_of s c) duty (read_of cdb sent capacity) b n g e
-    (asks_to_read (read_of cdb sent capacity) capacity s (initiator_of s c) duty.sent b n g asks nothing))
-    (λ label s e g what plan later by lawful follows so_far. subst (λ (x : List ℕ). Read b n (Some later) x) (sym (counts label s e c what g by))
+reads_get_each_block_once capacity waiting turns legal read b n asks success =
+    let x = read.command in
+    let c : ℕ = x.number in
+    let request : Result Request Sense = asked capacity x in
+    let end = until_its_end capacity c request x.sent (got_after c) (Read b n) (λ label s e g h. idle label s e c g h)
+    (λ s duty g e f nothing. begins_with capacity s (initiator_of s c) duty request b n g e
+    (asks_to_read request capacity s (initiator_of s c) duty.sent b n g asks nothing))
+    (λ label s e g what plan later by lawful follows so_far. subst (λ (gs : List ℕ). Read b n (Some later) gs) (sym (counts label s e c what g by))
     (read_next b n plan what later g follows so_far))
-    (λ d r g. refl) waiting turns first between after i t a cdb reply [] legal is refl refl in
-    let o = end_owed capacity c end.label end.state reply end.ok success in
-    got_at_end b n o.before o.after reply _ (blocks_got c between) o.follows success
-    (subst (λ (x : Option Plan). Read b n x (blocks_got c between)) o.owes end.inv.plan)
+    (λ d r g. refl) waiting turns read.before read.between read.behind x.initiator x.tag x.attribute x.cdb read.reply [] legal read.whole refl refl in
+    let o = end_owed capacity c end.label end.state read.reply end.ok success in
+    got_at_end b n o.before o.after read.reply _ (blocks_got c read.between) o.follows success
+    (subst (λ (p : Option Plan). Read b n p (blocks_got c read.between)) o.owes end.inv.plan)

@@ -1,6 +1,6 @@
 -- How replies compare, and which deeds an entry is.
-use Rattle.std.proofs.Common.{◌≡◌, ◌∙◌, ap, sym, refl, ℕ, Bool, true, false, cond}
-use Rattle.std.specs.Prelude.{◌&&◌, ◌||◌, ◌==◌, Option, Some, None}
+use Rattle.std.proofs.Common.{◌≡◌, ◌∙◌, ap, sym, subst, refl, ℕ, Bool, true, false, cond}
+use Rattle.std.specs.Prelude.{◌&&◌, ◌||◌, ◌==◌, Option, Some, None, Result}
 use Rattle.std.specs.Option.{option_map, option_map_or, option_eq}
 use Rattle.std.proofs.lemmas.Bool.{eqb-true}
 use Rattle.sense_data.specs.declared.sense.Sense.{Sense}
@@ -10,7 +10,9 @@ use Rattle.sense_data.specs.Attentions.{Waiting, attention_sense}
 use Rattle.cdb_reader.specs.declared.plan.Plan.{Plan}
 use Rattle.cdb_reader.specs.declared.plan.Plan.TheVariants.{Ending}
 use Rattle.cdb_reader.specs.Plan.{when}
-use Rattle.block_machine.specs.Plans.{refusing}
+use Rattle.cdb_reader.specs.Request.{Request}
+use Rattle.block_machine.specs.State.{State, Duty}
+use Rattle.block_machine.specs.Plans.{first_plan, plan_unless_refused, refusing}
 use Rattle.cdb_reader.specs.Replies.{same_sense, same_reply, check_condition}
 use Rattle.block_machine.specs.Attentions.{attention_met, passes_attentions}
 use Rattle.block_machine.specs.Laws.{succeeds}
@@ -50,7 +52,15 @@ attention_fails : (waiting : Waiting) (i code : ℕ) (sense : Sense) → attenti
 attention_fails waiting i code sense h = ap (λ (k : ℕ). k == 1) (attention_key (passes_attentions code) _ sense h)
 
 -- what holds of a plan and of an end that doesn't succeed holds of the plan unless an attention is told
-pub after_attention : (P : Plan → Type 0) → ((sense : Sense) → succeeds (check_condition sense) ≡ false → P (Ending (check_condition sense)))
+after_attention : (P : Plan → Type 0) → ((sense : Sense) → succeeds (check_condition sense) ≡ false → P (Ending (check_condition sense)))
     → (waiting : Waiting) (i code : ℕ) (o : Option Sense) → attention_met waiting i code ≡ o → (plan : Plan) → P plan → P (option_map_or refusing o plan)
 after_attention P fails waiting i code None e plan h = h
 after_attention P fails waiting i code (Some sense) e plan h = fails sense (attention_fails waiting i code sense e)
+
+-- so what holds of such an end, and of what is owed unless a command is refused, holds of what it owes at its start
+pub at_start : (P : Plan → Type 0) → ((sense : Sense) → succeeds (check_condition sense) ≡ false → P (Ending (check_condition sense)))
+    → (capacity : ℕ) (s : State) (i : ℕ) (duty : Duty) (asks : Result Request Sense) → duty.asks ≡ asks
+    → P (plan_unless_refused capacity s i duty.sent asks) → P (first_plan capacity s i duty)
+at_start P fails capacity s i duty asks e h =
+    after_attention P fails s.waiting i duty.code _ refl (plan_unless_refused capacity s i duty.sent duty.asks)
+    (subst (λ (x : Result Request Sense). P (plan_unless_refused capacity s i duty.sent x)) (sym e) h)

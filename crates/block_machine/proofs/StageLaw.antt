@@ -412,5 +412,5 @@ turns_fit capacity c s (turn ∷ turns) stage t h g at =
 pub entries_fit_their_stage : OfTaskLegalHistories EntriesFitTheirStage
 unfolding At distinct below has
 entries_fit_their_stage capacity waiting turns legal c =
-    let start : Good (state_at_start waiting) tally_at_start = record { inside = refl; once = refl; low = refl; gone_once = refl; gone_low = refl; apart = λ x h. refl; sum = refl } in
+    let start : Good (state_at_start waiting) tally_at_start = record { inside = refl; once = refl; low = refl; sum = refl } in
     turns_fit capacity c (state_at_start waiting) turns Coming tally_at_start legal start (record { early = λ h. omega arith; out = refl })

@@ -4,6 +4,7 @@ use Rattle.std.specs.Prelude.{◌||◌, fold, Option, Some, None}
 use Rattle.std.specs.List.{list_any}
 use Rattle.std.proofs.lemmas.Bool.{eqb-true}
 use Rattle.disk_base.specs.Along.{all_along}
+use Rattle.sense_data.specs.declared.reply.Reply.{Reply}
 use Rattle.block_machine.specs.declared.entry.Entry.{Entry}
 use Rattle.block_machine.specs.declared.entry.Entry.TheVariants.{Arrived, Started, Ended}
 use Rattle.block_machine.specs.declared.turn.Label.{Label}
@@ -11,6 +12,7 @@ use Rattle.block_machine.specs.declared.turn.Label.TheVariants.{Arrive, Work, Jo
 use Rattle.block_machine.specs.State.{State, Duty, state_at_start}
 use Rattle.block_machine.specs.Steps.{entry_after, duties_after, duties_done, begun}
 use Rattle.block_machine.specs.Deeds.{Done, done_by, owed_after}
+use Rattle.block_machine.specs.Parts.{arrival}
 use Rattle.block_machine.specs.Laws.{OfTaskLegalHistories, SuccessesFollowStarts}
 use Rattle.block_machine.proofs.Alongs.{along_second}
 use Rattle.block_machine.proofs.Stepwise.{Step, Begins, Does, step_after, step_ok, entry_ok, entries_in, steps_of, steps_ok, parted, entries_of_steps, put_there}
@@ -89,16 +91,22 @@ started_unless true c entries h never = started_at_one c entries h
 started_unless false c entries h never = absurd (never h)
 
 pub successes_follow_starts : OfTaskLegalHistories SuccessesFollowStarts
-successes_follow_starts capacity waiting turns legal first between after c i t a cdb sent reply is success =
+successes_follow_starts capacity waiting turns legal done success =
     let start : State = state_at_start waiting in
-    let arrival : Entry = Arrived c i t a cdb sent in
-    let p = parted (steps_of turns) first arrival (between ++ Ended c reply ∷ after) (entries_of_steps turns ∙ is) in
+    let x = done.command in
+    let c : ℕ = x.number in
+    let reply : Reply = done.reply in
+    let first : List Entry = done.before in
+    let between : List Entry = done.between in
+    let after : List Entry = done.behind in
+    let comes : Entry = arrival x in
+    let p = parted (steps_of turns) first comes (between ++ Ended c reply ∷ after) (entries_of_steps turns ∙ done.whole) in
     let q = parted p.behind between (Ended c reply) after p.last in
-    let h0 : all_along (step_after capacity) (step_ok capacity) start (p.before ++ Does p.label arrival ∷ p.behind) ≡ true =
+    let h0 : all_along (step_after capacity) (step_ok capacity) start (p.before ++ Does p.label comes ∷ p.behind) ≡ true =
     ap (λ (x : List Step). all_along (step_after capacity) (step_ok capacity) start x) (sym p.whole) ∙ steps_ok capacity start turns legal in
     let s : State = fold (step_after capacity) start p.before in
-    let h1 = both (entry_ok capacity p.label s arrival) _ (along_second (step_after capacity) (step_ok capacity) start p.before (Does p.label arrival ∷ p.behind) h0) in
-    let u : State = entry_after capacity p.label s arrival in
+    let h1 = both (entry_ok capacity p.label s comes) _ (along_second (step_after capacity) (step_ok capacity) start p.before (Does p.label comes ∷ p.behind) h0) in
+    let u : State = entry_after capacity p.label s comes in
     let h2 : all_along (step_after capacity) (step_ok capacity) u (q.before ++ Does q.label (Ended c reply) ∷ q.behind) ≡ true =
     ap (λ (x : List Step). all_along (step_after capacity) (step_ok capacity) u x) (sym q.whole) ∙ h1.1 in
     let v : State = fold (step_after capacity) u q.before in

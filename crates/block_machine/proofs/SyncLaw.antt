@@ -8,6 +8,7 @@ use Rattle.disk_base.specs.declared.command.DataOut.{DataOut}
 use Rattle.sense_data.specs.declared.sense.Sense.{Sense}
 use Rattle.sense_data.specs.declared.reply.Reply.{Reply}
 use Rattle.sense_data.specs.Sense.{sense_of}
+use Rattle.sense_data.specs.Attentions.{Waiting}
 use Rattle.cdb_reader.specs.declared.plan.Syncing as syncing
 use Rattle.cdb_reader.specs.declared.plan.Plan.{Plan}
 use Rattle.cdb_reader.specs.declared.plan.Plan.TheVariants.{Ending, Unread, Answering, Changing, Reading, Writing, Syncing, Moving, Over}
@@ -15,29 +16,37 @@ use Rattle.cdb_reader.specs.declared.plan.Deed.{Deed}
 use Rattle.cdb_reader.specs.declared.plan.Deed.TheVariants as deed
 use Rattle.cdb_reader.specs.Plan.{next}
 use Rattle.cdb_reader.specs.Replies.{good, same_reply, is_write_error}
-use Rattle.cdb_reader.specs.Read.{read_of}
 use Rattle.cdb_reader.specs.Request.{Request}
 use Rattle.cdb_reader.specs.Request as request
 use Rattle.disk_base.specs.declared.block.Value.{Value}
 use Rattle.block_machine.specs.declared.array.BlockState.{BlockState}
 use Rattle.block_machine.specs.declared.entry.Who.TheVariants.{Command, Drive}
 use Rattle.block_machine.specs.declared.entry.Entry.{Entry}
-use Rattle.block_machine.specs.declared.entry.Entry.TheVariants.{Arrived, Started, Put, Harden, Passed, Ended}
+use Rattle.block_machine.specs.declared.entry.Entry.TheVariants.{Started, Put, Harden, Passed, Ended}
+use Rattle.block_machine.specs.declared.turn.Turn.{Turn}
 use Rattle.block_machine.specs.Blocks.{Blocks, blocks_at_start, blocks_after, block_lawful, is_dirty, newest, hardened_with, after_harden}
 use Rattle.block_machine.specs.Turns.{turn_after, tasks_lawful, blocks_lawful}
 use Rattle.block_machine.specs.History.{entries_of}
 use Rattle.block_machine.specs.State.{State, Duty, initiator_of, state_at_start}
 use Rattle.block_machine.specs.Plans.{first_plan, plan_unless_refused, refusing}
-use Rattle.block_machine.specs.Laws.{OfLegalHistories, Mark, Wrote, Forced, Found, marks_after, marks_of, covers, succeeds, AsksToSync, SyncsFindEachBlockHardened}
+use Rattle.block_machine.specs.Parts.{Life, arrival, asked}
+use Rattle.block_machine.specs.Laws.{IsLegal, Mark, Wrote, Forced, Found, marks_after, marks_of, succeeds}
+use Rattle.block_machine.specs.Lives.{AsksToSync}
 use Rattle.block_machine.proofs.Alongs.{along_left, along_second, fold_both}
 use Rattle.block_machine.proofs.OneBlock.{one_after}
 use Rattle.block_machine.proofs.BlockLaws.{dirty_newest}
 use Rattle.block_machine.proofs.Projection.{legal_blocks}
-use Rattle.block_machine.proofs.Replies.{when_is, same_succeed, after_attention}
+use Rattle.block_machine.proofs.Replies.{when_is, same_succeed, at_start}
 use Rattle.block_machine.proofs.ReadLaw.{write_error_fails, end_owed}
 use Rattle.block_machine.proofs.WriteLaw.{marks, marks_by, unmarked}
 use Rattle.block_machine.proofs.SinceStart.{Runs, from_its_start}
 use Rattle.block_machine.proofs.Booleans.{and_both, both, not_is, or_assoc, or_right, true_not_false}
+
+-- a mark says that a block was hardened, or found hardened
+abbrev covers : ℕ → Mark → Bool
+covers x (Wrote b block) = false
+covers x (Forced b) = b == x
+covers x (Found from to) = nat_le from x && nat_lt x to
 
 one_of : (t u v : Bool) → (t || u) ≡ true → (u ≡ true → v ≡ true) → (t || v) ≡ true
 one_of true u v h k = refl
@@ -119,12 +128,21 @@ begins_with : (capacity : ℕ) (s : State) (i : ℕ) (duty : Duty) (asks : Resul
     → Sync b n (plan_unless_refused capacity s i duty.sent asks) g → Sync b n (first_plan capacity s i duty) g
 unfolding Sync
 begins_with capacity s i duty asks b n g e h =
-    after_attention (λ (plan : Plan). Sync b n plan g) (λ sense f k. absurd (true_not_false k f)) s.waiting i duty.code _ refl
-    (plan_unless_refused capacity s i duty.sent duty.asks)
-    (subst (λ (x : Result Request Sense). Sync b n (plan_unless_refused capacity s i duty.sent x) g) (sym e) h)
+    at_start (λ (plan : Plan). Sync b n plan g) (λ sense f k. absurd (true_not_false k f)) capacity s i duty asks e h
 
-asks_to_sync : (asks : Result Request Sense) (capacity : ℕ) (s : State) (i : ℕ) (sent : DataOut) (b n : ℕ) (g : List Mark) → AsksToSync asks b n
+-- a sync of so many blocks from one on
+Syncs : Result Request Sense → ℕ → ℕ → Type 0
+Syncs (Ok (request.SynchronizeCache from count)) b n = (from ≡ b) × (count ≡ n)
+Syncs other b n = ⊥
+
+range_synced : (asks : Result Request Sense) (x : ℕ) → AsksToSync asks x → (b n : ℕ) × Syncs asks b n × (b ≤ x) × (x < b + n)
+unfolding Syncs
+range_synced (Ok (request.SynchronizeCache from count)) x h = (from, count, (refl, refl), h.0, h.1)
+range_synced asks x h = absurd h
+
+asks_to_sync : (asks : Result Request Sense) (capacity : ℕ) (s : State) (i : ℕ) (sent : DataOut) (b n : ℕ) (g : List Mark) → Syncs asks b n
     → Sync b n (plan_unless_refused capacity s i sent asks) g
+unfolding Syncs
 asks_to_sync (Ok (request.SynchronizeCache from count)) capacity s i sent b n g h = rw (h.0, h.1) (starts_syncing (s.corrupt && true) (nat_eq n 0) b n g refl)
 asks_to_sync asks capacity s i sent b n g h = absurd h
 
@@ -252,38 +270,53 @@ still_before : (first queued part now : List Entry) (arrival start : Entry)
     → first ++ arrival ∷ (queued ++ start ∷ (part ++ now)) ≡ (first ++ arrival ∷ (queued ++ start ∷ part)) ++ now
 still_before first queued part now arrival start = simp append_assoc
 
-pub syncs_find_each_block_hardened : OfLegalHistories SyncsFindEachBlockHardened
+-- a moment since its start at which a block wasn't dirty
+pub record CleanDuring (turns : List Turn) (sync : Life turns) (x : ℕ) : Type 0 where
+  pub part : List Entry
+  pub rest : List Entry
+  pub whole : sync.during ≡ part ++ rest
+  pub clean : is_dirty (fold blocks_after blocks_at_start (sync.before ++ arrival sync.command ∷ (sync.queued ++ Started sync.command.number ∷ part)) x) ≡ false
+
+pub syncs_find_each_block_hardened : (capacity : ℕ) (waiting : Waiting) (turns : List Turn) → IsLegal capacity waiting turns → (sync : Life turns) (x : ℕ)
+    → AsksToSync (asked capacity sync.command) x → succeeds sync.reply ≡ true → CleanDuring turns sync x
 unfolding Sync Covered
-syncs_find_each_block_hardened capacity waiting turns legal first queued between after c i t a cdb sent reply b n x is asks success low high =
+syncs_find_each_block_hardened capacity waiting turns legal sync x asks success =
     let start : State = state_at_start waiting in
-    let arrival : Entry = Arrived c i t a cdb sent in
-    let request : Result Request Sense = read_of cdb sent capacity in
+    let command = sync.command in
+    let c : ℕ = command.number in
+    let comes : Entry = arrival command in
+    let ends : Entry = Ended c sync.reply in
+    let request : Result Request Sense = asked capacity command in
+    let range = range_synced request x asks in
+    let b : ℕ = range.0 in
+    let n : ℕ = range.1 in
     let task_legal = along_left (turn_after capacity) (tasks_lawful capacity) (λ s turn. blocks_lawful capacity s.blocks turn.entries) start turns legal in
-    let end = from_its_start capacity c request sent (marks_after c) (Sync b n) (λ label s e g h. unmarked label s e c g h)
+    let end = from_its_start capacity c request command.sent (marks_after c) (Sync b n) (λ label s e g h. unmarked label s e c g h)
     (λ label s e g what plan later by lawful follows so_far. subst (λ (m : List Mark). Sync b n later m) (sym (marks label s e c what g by))
     (sync_next b n plan what later g follows so_far))
-    (λ d r g. refl) waiting turns first queued between after i t a cdb reply [] task_legal is refl
+    (λ d r g. refl) waiting turns sync.before sync.queued sync.during sync.behind command.initiator command.tag command.attribute command.cdb sync.reply [] task_legal sync.whole refl
     (λ s duty settings e f. begins_with capacity s (initiator_of s c) duty request b n [] e
-    (asks_to_sync request capacity s (initiator_of s c) duty.sent b n [] asks)) in
-    let o = end_owed capacity c end.0.label end.0.state reply end.0.ok success in
-    let all = synced_at_end b n o.before o.after reply _ (marks_of c between) o.follows success
-    (subst (λ (p : Option Plan). Runs (Sync b n) p (marks_of c between)) o.owes end.0.inv.plan) in
-    let m = covered_at c x [] between (all x low high) refl in
-    let before : List Entry = first ++ arrival ∷ (queued ++ Started c ∷ m.part) in
-    let behind : List Entry = m.rest ++ Ended c reply ∷ after in
+    (asks_to_sync request capacity s (initiator_of s c) duty.sent b n [] range.2)) in
+    let o = end_owed capacity c end.0.label end.0.state sync.reply end.0.ok success in
+    let all = synced_at_end b n o.before o.after sync.reply _ (marks_of c sync.during) o.follows success
+    (subst (λ (p : Option Plan). Runs (Sync b n) p (marks_of c sync.during)) o.owes end.0.inv.plan) in
+    let m = covered_at c x [] sync.during (all x range.3 range.4) refl in
+    let before : List Entry = sync.before ++ comes ∷ (sync.queued ++ Started c ∷ m.part) in
+    let behind : List Entry = m.rest ++ ends ∷ sync.behind in
     let order : entries_of turns ≡ before ++ m.e ∷ behind =
-    is ∙ ap (λ (es : List Entry). first ++ arrival ∷ (queued ++ Started c ∷ (es ++ Ended c reply ∷ after))) m.whole
-    ∙ in_order first queued m.part m.rest after arrival (Started c) m.e (Ended c reply) in
+    sync.whole ∙ ap (λ (es : List Entry). sync.before ++ comes ∷ (sync.queued ++ Started c ∷ (es ++ ends ∷ sync.behind))) m.whole
+    ∙ in_order sync.before sync.queued m.part m.rest sync.behind comes (Started c) m.e ends in
     let lawful : blocks_lawful capacity blocks_at_start (before ++ m.e ∷ behind) ≡ true =
     ap (λ (es : List Entry). blocks_lawful capacity blocks_at_start es) (sym order) ∙ legal_blocks capacity start turns legal in
     let here = (both (block_lawful capacity (fold blocks_after blocks_at_start before) m.e) _
     (along_second blocks_after (block_lawful capacity) blocks_at_start before (m.e ∷ behind) lawful)).0 in
     let k = clean_at capacity x (fold blocks_after blocks_at_start before) m.e m.rest here m.is in
-    let moment : fold blocks_after blocks_at_start (first ++ arrival ∷ (queued ++ Started c ∷ (m.part ++ k.now))) ≡ fold blocks_after (fold blocks_after blocks_at_start before) k.now =
-    ap (λ (es : List Entry). fold blocks_after blocks_at_start es) (still_before first queued m.part k.now arrival (Started c))
-    ∙ fold_both blocks_after blocks_at_start before k.now in (
-      m.part ++ k.now,
-      k.later,
-      m.whole ∙ ap (λ (es : List Entry). m.part ++ es) k.whole ∙ sym (append_assoc m.part k.now k.later),
-      ap (λ (blocks : Blocks). is_dirty (blocks x)) moment ∙ k.clean,
-    )
+    let moment : fold blocks_after blocks_at_start (sync.before ++ comes ∷ (sync.queued ++ Started c ∷ (m.part ++ k.now))) ≡ fold blocks_after (fold blocks_after blocks_at_start before) k.now =
+    ap (λ (es : List Entry). fold blocks_after blocks_at_start es) (still_before sync.before sync.queued m.part k.now comes (Started c))
+    ∙ fold_both blocks_after blocks_at_start before k.now in
+    record {
+      part = m.part ++ k.now;
+      rest = k.later;
+      whole = m.whole ∙ ap (λ (es : List Entry). m.part ++ es) k.whole ∙ sym (append_assoc m.part k.now k.later);
+      clean = ap (λ (blocks : Blocks). is_dirty (blocks x)) moment ∙ k.clean;
+    }

@@ -136,10 +136,12 @@ given_found false s d e h =
     of_base s d (sym is ∙ h)
 
 pub reads_give_hardened_or_newer : OfLegalHistories ReadsGiveHardenedOrNewer
-reads_give_hardened_or_newer capacity waiting turns legal before after c b d is =
-    let h = block_along capacity waiting turns b.0 (before ++ Get c b (Data d) ∷ after) legal is in
+reads_give_hardened_or_newer capacity waiting turns legal b get =
+    let before : List Entry = get.before in
+    let here : Entry = Get get.reader b (Data get.block) in
+    let h = block_along capacity waiting turns b.0 (before ++ here ∷ get.behind) legal get.whole in
     let s : BlockState = fold (block_after b.0) (hardened_with zeros) before in
     let i : Within s (values_since_hardened b.0 before) =
     kept_along (block_after b.0) (block_allows b.0) (values_after b.0) (λ e. true) Within (keeps_within b.0) (hardened_with zeros) (zeros ∷ []) before
-    (part_before b.0 (hardened_with zeros) before (Get c b (Data d)) after h) (all_pass before) (hardened_within zeros (zeros ∷ []) (λ f k. k)) in
-    i.each d (given_found (is_dirty s) s d refl (allowed_here b.0 _ (part_here b.0 (hardened_with zeros) before (Get c b (Data d)) after h)))
+    (part_before b.0 (hardened_with zeros) before here get.behind h) (all_pass before) (hardened_within zeros (zeros ∷ []) (λ f k. k)) in
+    i.each get.block (given_found (is_dirty s) s get.block refl (allowed_here b.0 _ (part_here b.0 (hardened_with zeros) before here get.behind h)))

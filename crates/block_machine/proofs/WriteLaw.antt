@@ -1,10 +1,8 @@
 -- A write that goes through and succeeds has put and hardened each of its blocks.
-use Rattle.std.proofs.Common.{◌≡◌, ◌∙◌, ap, sym, subst, refl, ℕ, suc, ◌+◌, ◌-◌, ◌<◌, ◌≤◌, Bool, true, false, not, cond, nat_eq, nat_lt, List, [], ◌∷◌, ◌++◌, append_assoc, arith}
+use Rattle.std.proofs.Common.{◌≡◌, ◌∙◌, ap, sym, subst, refl, ℕ, suc, ◌+◌, ◌-◌, ◌<◌, ◌≤◌, Bool, true, false, not, cond, nat_eq, List, [], ◌∷◌, ◌++◌, append_assoc, arith}
 use Rattle.std.specs.Prelude.{◌&&◌, ◌||◌, ◌==◌, unwrap_or, Option, Some, None, Result, Ok}
 use Rattle.std.specs.List.{list_all}
-use Rattle.std.specs.Str.{bytes_eq}
-use Rattle.std.proofs.lemmas.Bool.{eq-eqb, eqb-true, ltb-true}
-use Rattle.std.proofs.lemmas.Slice.Eq.{bytes_eq-Decides}
+use Rattle.std.proofs.lemmas.Bool.{eq-eqb, eqb-true}
 use Rattle.disk_base.specs.declared.block.Value.TheVariants.{Data, Lost}
 use Rattle.disk_base.specs.declared.command.DataOut.{DataOut}
 use Rattle.sense_data.specs.declared.sense.Sense.{Sense}
@@ -16,13 +14,12 @@ use Rattle.cdb_reader.specs.declared.plan.Plan.TheVariants.{Ending, Unread, Answ
 use Rattle.cdb_reader.specs.declared.plan.Deed.{Deed}
 use Rattle.cdb_reader.specs.declared.plan.Deed.TheVariants as deed
 use Rattle.cdb_reader.specs.Plan.{next, reading_from, writing_from, after_written, block_of}
-use Rattle.cdb_reader.specs.Replies.{good, unrecovered_read, same_reply, is_write_error}
-use Rattle.cdb_reader.specs.Read.{read_of}
+use Rattle.cdb_reader.specs.Replies.{good, unrecovered_read}
 use Rattle.cdb_reader.specs.Request.{Request, ReadDefectData}
 use Rattle.cdb_reader.specs.Request as request
 use Rattle.block_machine.specs.declared.entry.Who.TheVariants.{Command, Drive}
 use Rattle.block_machine.specs.declared.entry.Entry.{Entry}
-use Rattle.block_machine.specs.declared.entry.Entry.TheVariants.{Arrived, Get, Put, Harden, Passed, Page, Ended, Mode}
+use Rattle.block_machine.specs.declared.entry.Entry.TheVariants.{Get, Put, Harden, Passed, Page, Ended, Mode}
 use Rattle.block_machine.specs.declared.turn.Label.{Label}
 use Rattle.block_machine.specs.declared.turn.Label.TheVariants.{Work}
 use Rattle.mode_pages.specs.declared.settings.Settings.{Settings}
@@ -31,11 +28,13 @@ use Rattle.block_machine.specs.Plans.{first_plan, plan_unless_refused, refusing}
 use Rattle.block_machine.specs.DriveOnly.{has_defect_length}
 use Rattle.block_machine.specs.Deeds.{done, done_by, page_done}
 use Rattle.block_machine.specs.Laws.{OfTaskLegalHistories, Mark, Wrote, Forced, Found, marks_after, marks_of, written_through, is_forced, succeeds, AsksToForce, ForcedWritesAreHardened}
-use Rattle.block_machine.proofs.Replies.{when_is, same_succeed, not_same, after_attention}
-use Rattle.block_machine.proofs.ReadLaw.{done_is, write_error_fails, end_owed}
+use Rattle.block_machine.specs.Parts.{asked}
+use Rattle.block_machine.proofs.Replies.{when_is, same_succeed, not_same, at_start}
+use Rattle.block_machine.proofs.ReadLaw.{done_is, end_owed}
+use Rattle.block_machine.proofs.WriteSteps.{IsWithin, first_within, owing_within, next_within, last_one, sent_here, PutNext, put_next, harden_next, whole_at_end}
 use Rattle.block_machine.proofs.OneCommand.{NotBy}
 use Rattle.block_machine.proofs.SinceStart.{Runs, from_its_start}
-use Rattle.block_machine.proofs.Booleans.{and_both, both, not_is, true_not_false}
+use Rattle.block_machine.proofs.Booleans.{and_both, both, true_not_false}
 
 -- the marks after a deed
 unfoldable pub marks_by : List Mark → Deed → List Mark
@@ -84,13 +83,9 @@ record AllWritten (b n : ℕ) (sent : DataOut) (g : List Mark) : Type 0 where
 
 -- the blocks written so far are the first ones of the range, with or without the put of the next
 record WrittenSoFar (b n : ℕ) (sent : DataOut) (w : writing.Writing) (g : List Mark) : Type 0 where
-  from : w.from ≡ b
-  ends : w.end ≡ b + n
-  low : b ≤ w.at
-  high : w.at ≤ w.end
-  data_are : w.sent ≡ sent
+  within : IsWithin b n sent w
   through : w.through ≡ true
-  put : w.owes_harden ≡ true → (w.at < w.end) × (g ≡ written_through b sent (w.at - b) ++ Wrote w.at (block_of sent (w.at - b)) ∷ [])
+  put : w.owes_harden ≡ true → g ≡ written_through b sent (w.at - b) ++ Wrote w.at (block_of sent (w.at - b)) ∷ []
   done_so_far : w.owes_harden ≡ false → g ≡ written_through b sent (w.at - b)
 
 -- what was done, by what a write that goes through still owes
@@ -123,62 +118,46 @@ harden_more b n a sent g i = record {
 }
 
 -- a block is put
-put_next : (b n a : ℕ) (sent : DataOut) (w : writing.Writing) (block : List ℕ) (g : List Mark) → a ≡ w.at → w.at < w.end → w.owes_harden ≡ false
-    → bytes_eq block (block_of w.sent (w.at - w.from)) ≡ true → WrittenSoFar b n sent w g → WrittenSoFar b n sent (record w { owes_harden = true }) (g ++ Wrote a block ∷ [])
-put_next b n a sent w block g is below owes same i =
-    let data_is : block ≡ block_of sent (w.at - b) =
-    (bytes_eq-Decides block _).0 same ∙ ap (λ (d : DataOut). block_of d (w.at - w.from)) i.data_are ∙ ap (λ (f : ℕ). block_of sent (w.at - f)) i.from in
+put_more : (b n a : ℕ) (sent : DataOut) (w : writing.Writing) (block : List ℕ) (full : Bool) (after : Plan) (g : List Mark) → PutNext w a block full after → WrittenSoFar b n sent w g
+    → WrittenSoFar b n sent (record w { owes_harden = true }) (g ++ Wrote a block ∷ [])
+put_more b n a sent w block full after g p i =
+    let done : List Mark = written_through b sent (w.at - b) in
     record {
-      from = i.from;
-      ends = i.ends;
-      low = i.low;
-      high = i.high;
-      data_are = i.data_are;
+      within = owing_within b n sent w i.within;
       through = i.through;
-      put = λ h. (
-        below,
-        ap (λ (xs : List Mark). xs ++ Wrote a block ∷ []) (i.done_so_far owes)
-            ∙ ap (λ (x : ℕ). written_through b sent (w.at - b) ++ Wrote x block ∷ []) is
-            ∙ ap (λ (x : List ℕ). written_through b sent (w.at - b) ++ Wrote w.at x ∷ []) data_is,
-      );
+      put = λ h. ap (λ (xs : List Mark). xs ++ Wrote a block ∷ []) (i.done_so_far p.idle)
+          ∙ ap (λ (x : ℕ). done ++ Wrote x block ∷ []) p.here
+          ∙ ap (λ (x : List ℕ). done ++ Wrote w.at x ∷ []) (sent_here b n sent w block p.same i.within);
       done_so_far = λ h. absurd (cc);
     }
 
 -- .. and hardened
 hardened_marks : (b n a : ℕ) (sent : DataOut) (w : writing.Writing) (g : List Mark) → a ≡ w.at → w.owes_harden ≡ true → WrittenSoFar b n sent w g
-    → g ++ Forced a ∷ [] ≡ written_through b sent (w.at + 1 - b)
+    → g ++ Forced a ∷ [] ≡ written_through b sent (suc (w.at - b))
 hardened_marks b n a sent w g is owes i =
-    let low : b ≤ w.at = i.low in
-    let more : w.at + 1 - b ≡ suc (w.at - b) = omega arith in
+    let low : b ≤ w.at = i.within.low in
     let here : b + (w.at - b) ≡ w.at = omega arith in
     let done : List Mark = written_through b sent (w.at - b) in
     let block : List ℕ = block_of sent (w.at - b) in
-    ap (λ (xs : List Mark). xs ++ Forced a ∷ []) (i.put owes).1
+    ap (λ (xs : List Mark). xs ++ Forced a ∷ []) (i.put owes)
     ∙ append_assoc done (Wrote w.at block ∷ []) (Forced a ∷ [])
     ∙ ap (λ (x : ℕ). done ++ Wrote w.at block ∷ Forced x ∷ []) is
     ∙ ap (λ (x : ℕ). done ++ Wrote x block ∷ Forced x ∷ []) (sym here)
-    ∙ ap (λ (k : ℕ). written_through b sent k) (sym more)
 
-harden_next : (last : Bool) (b n a : ℕ) (sent : DataOut) (w : writing.Writing) (g : List Mark) → (w.verifies && w.at + 1 == w.end) ≡ last → a ≡ w.at → w.at < w.end → w.owes_harden ≡ true
+harden_last : (last : Bool) (b n a : ℕ) (sent : DataOut) (w : writing.Writing) (g : List Mark) → (w.verifies && w.at + 1 == w.end) ≡ last → a ≡ w.at → w.at < w.end → w.owes_harden ≡ true
     → WrittenSoFar b n sent w g
     → Write b n sent (cond last (reading_from w.from w.end true w.reports) (Writing (record w { at = w.at + 1; owes_harden = false }))) (g ++ Forced a ∷ [])
 unfolding Write
-harden_next true b n a sent w g e is below owes i =
-    let over : w.at + 1 ≡ w.end = eqb-true (w.at + 1) w.end (both w.verifies (w.at + 1 == w.end) e).1 in
-    let ends : w.end ≡ b + n = i.ends in
-    let all : w.at + 1 - b ≡ n = omega arith in
-    exactly b n sent (g ++ Forced a ∷ []) (hardened_marks b n a sent w g is owes i ∙ ap (λ (k : ℕ). written_through b sent k) all)
-harden_next false b n a sent w g e is below owes i =
-    let low : b ≤ w.at = i.low in
+harden_last true b n a sent w g e is below owes i =
+    exactly b n sent (g ++ Forced a ∷ []) (hardened_marks b n a sent w g is owes i ∙ ap (λ (k : ℕ). written_through b sent k) (last_one b n sent w e i.within))
+harden_last false b n a sent w g e is below owes i =
+    let low : b ≤ w.at = i.within.low in
+    let more : suc (w.at - b) ≡ w.at + 1 - b = omega arith in
     record {
-      from = i.from;
-      ends = i.ends;
-      low = omega arith;
-      high = omega arith;
-      data_are = i.data_are;
+      within = next_within b n sent w below i.within;
       through = i.through;
       put = λ h. absurd (cc);
-      done_so_far = λ h. hardened_marks b n a sent w g is owes i;
+      done_so_far = λ h. hardened_marks b n a sent w g is owes i ∙ ap (λ (k : ℕ). written_through b sent k) more;
     }
 
 -- each deed of a write that goes through keeps that
@@ -194,20 +173,14 @@ write_next b n sent (Reading r) (deed.Got a (Data v) dirty) after g h i = subst 
 write_next b n sent (Reading r) (deed.Hardened a) after g h i =
     subst (λ (p : Plan). Write b n sent p (g ++ Forced a.0 ∷ [])) (when_is _ _ _ h).1 (harden_more b n a.0 sent g i)
 write_next b n sent (Writing w) (deed.Put a block full) after g h i =
-    let may = when_is _ _ _ h in
-    let p3 = both (not w.owes_harden && a.0 == w.at && nat_lt w.at w.end) _ may.0 in
-    let p2 = both (not w.owes_harden && a.0 == w.at) _ p3.0 in
-    let p1 = both (not w.owes_harden) _ p2.0 in
+    let p = put_next w a block full after h in
     let through : cond (w.through || full) (Writing (record w { owes_harden = true })) (after_written w) ≡ Writing (record w { owes_harden = true }) =
     ap (λ (t : Bool). cond (t || full) (Writing (record w { owes_harden = true })) (after_written w)) i.through in
-    subst (λ (p : Plan). Write b n sent p (g ++ Wrote a.0 block ∷ [])) (sym through ∙ may.1)
-    (put_next b n a.0 sent w block g (eqb-true a.0 w.at p1.1) (ltb-true w.at w.end p2.1) (not_is w.owes_harden p1.0) p3.1 i)
+    subst (λ (p : Plan). Write b n sent p (g ++ Wrote a.0 block ∷ [])) (sym through ∙ p.leaves) (put_more b n a.0 sent w block full after g p i)
 write_next b n sent (Writing w) (deed.Hardened a) after g h i =
-    let may = when_is _ _ _ h in
-    let p2 = both (w.owes_harden && a.0 == w.at) _ may.0 in
-    let p1 = both w.owes_harden _ p2.0 in
-    subst (λ (p : Plan). Write b n sent p (g ++ Forced a.0 ∷ [])) may.1
-    (harden_next (w.verifies && w.at + 1 == w.end) b n a.0 sent w g refl (eqb-true a.0 w.at p1.1) (ltb-true w.at w.end p2.1) p1.0 i)
+    let p = harden_next w a after h in
+    subst (λ (p : Plan). Write b n sent p (g ++ Forced a.0 ∷ [])) p.leaves
+    (harden_last (w.verifies && w.at + 1 == w.end) b n a.0 sent w g refl p.here p.below p.owing i)
 write_next b n sent (Answering bytes reply) what after g h i = absurd i
 write_next b n sent Changing what after g h i = absurd i
 write_next b n sent (Syncing s) what after g h i = absurd i
@@ -223,11 +196,7 @@ starts_writing false true verifies reports b n sent g through e f is = λ h. exa
 starts_writing false false verifies reports b n sent g through e f is =
     let none : b - b ≡ 0 = omega arith in
     record {
-      from = refl;
-      ends = refl;
-      low = omega arith;
-      high = omega arith;
-      data_are = refl;
+      within = first_within b n sent _ refl refl refl refl;
       through = f;
       put = λ h. absurd (cc);
       done_so_far = λ h. is ∙ ap (λ (k : ℕ). written_through b sent k) (sym none);
@@ -237,9 +206,7 @@ begins_with : (capacity : ℕ) (s : State) (i : ℕ) (duty : Duty) (asks : Resul
     → Write b n sent (plan_unless_refused capacity s i duty.sent asks) g → Write b n sent (first_plan capacity s i duty) g
 unfolding Write
 begins_with capacity s i duty asks b n sent g e h =
-    after_attention (λ (plan : Plan). Write b n sent plan g) (λ sense f k. absurd (true_not_false k f)) s.waiting i duty.code _ refl
-    (plan_unless_refused capacity s i duty.sent duty.asks)
-    (subst (λ (x : Result Request Sense). Write b n sent (plan_unless_refused capacity s i duty.sent x) g) (sym e) h)
+    at_start (λ (plan : Plan). Write b n sent plan g) (λ sense f k. absurd (true_not_false k f)) capacity s i duty asks e h
 
 asks_to_force : (asks : Result Request Sense) (capacity : ℕ) (s : State) (i : ℕ) (sent : DataOut) (b n : ℕ) (g : List Mark) → AsksToForce asks s.settings b n → g ≡ []
     → Write b n sent (plan_unless_refused capacity s i sent asks) g
@@ -249,12 +216,6 @@ asks_to_force (Ok (request.WriteAndVerify from count)) capacity s i sent b n g h
     rw (h.0, h.1) (starts_writing (s.corrupt && true) (nat_eq n 0) true s.settings.per b n sent g true refl refl is)
 asks_to_force asks capacity s i sent b n g h is = absurd h
 
--- a write that ends with success is at its end
-pub writing_over : (t : Bool) (w : writing.Writing) (reply : Reply) → (w.at == w.end && same_reply reply good) ≡ t → (t || (nat_lt w.at w.end && is_write_error w.at reply)) ≡ true
-    → succeeds reply ≡ true → w.at ≡ w.end
-writing_over true w reply e h k = eqb-true w.at w.end (both (w.at == w.end) _ e).0
-writing_over false w reply e h k = absurd (write_error_fails w.at reply (both (nat_lt w.at w.end) _ h).1 k)
-
 written_at_end : (b n : ℕ) (sent : DataOut) (plan after : Plan) (reply : Reply) (dirty : Bool) (g : List Mark) → next plan (deed.Ended reply dirty) ≡ Some after → succeeds reply ≡ true
     → Write b n sent plan g → AllWritten b n sent g
 unfolding Write
@@ -262,11 +223,8 @@ written_at_end b n sent (Ending x) after reply dirty g h k i = i (sym (same_succ
 written_at_end b n sent (Unread a) after reply dirty g h k i = absurd (not_same reply (unrecovered_read a) (when_is _ _ _ h).0 k refl)
 written_at_end b n sent (Reading r) after reply dirty g h k i = i
 written_at_end b n sent (Writing w) after reply dirty g h k i =
-    let may = both (not w.owes_harden) _ (when_is _ _ _ h).0 in
-    let over : w.at ≡ w.end = writing_over _ w reply refl may.1 k in
-    let ends : w.end ≡ b + n = i.ends in
-    let all : w.at - b ≡ n = omega arith in
-    exactly b n sent g (i.done_so_far (not_is w.owes_harden may.0) ∙ ap (λ (m : ℕ). written_through b sent m) all)
+    let whole = whole_at_end b n sent w after reply dirty h k i.within in
+    exactly b n sent g (i.done_so_far whole.0 ∙ ap (λ (m : ℕ). written_through b sent m) whole.1)
 written_at_end b n sent Over after reply dirty g h k i = absurd (cc)
 written_at_end b n sent (Answering bytes answer) after reply dirty g h k i = absurd i
 written_at_end b n sent Changing after reply dirty g h k i = absurd i
@@ -275,17 +233,18 @@ written_at_end b n sent (Moving m) after reply dirty g h k i = absurd i
 
 pub forced_writes_are_hardened : OfTaskLegalHistories ForcedWritesAreHardened
 unfolding Write
-forced_writes_are_hardened capacity waiting turns legal first queued between after c i t a cdb sent reply b n is asks success =
-    let request : Result Request Sense = read_of cdb sent capacity in
-    let before : List Entry = first ++ Arrived c i t a cdb sent ∷ queued in
-    let end = from_its_start capacity c request sent (marks_after c) (Write b n sent) (λ label s e g h. unmarked label s e c g h)
-    (λ label s e g what plan later by lawful follows so_far. subst (λ (x : List Mark). Write b n sent later x) (sym (marks label s e c what g by))
-    (write_next b n sent plan what later g follows so_far))
-    (λ d r g. refl) waiting turns first queued between after i t a cdb reply [] legal is refl
-    (λ s duty settings e f. begins_with capacity s (initiator_of s c) duty request b n sent [] e
-    (subst (λ (x : DataOut). Write b n sent (plan_unless_refused capacity s (initiator_of s c) x request) []) (sym f)
-    (asks_to_force request capacity s (initiator_of s c) sent b n [] (subst (λ (x : Settings). AsksToForce request x b n) (sym settings) asks) refl))) in
-    let o = end_owed capacity c end.0.label end.0.state reply end.0.ok success in
-    let all = written_at_end b n sent o.before o.after reply _ (marks_of c between) o.follows success
-    (subst (λ (x : Option Plan). Runs (Write b n sent) x (marks_of c between)) o.owes end.0.inv.plan) in
+forced_writes_are_hardened capacity waiting turns legal write b n asks success =
+    let x = write.command in
+    let c : ℕ = x.number in
+    let request : Result Request Sense = asked capacity x in
+    let end = from_its_start capacity c request x.sent (marks_after c) (Write b n x.sent) (λ label s e g h. unmarked label s e c g h)
+    (λ label s e g what plan later by lawful follows so_far. subst (λ (m : List Mark). Write b n x.sent later m) (sym (marks label s e c what g by))
+    (write_next b n x.sent plan what later g follows so_far))
+    (λ d r g. refl) waiting turns write.before write.queued write.during write.behind x.initiator x.tag x.attribute x.cdb write.reply [] legal write.whole refl
+    (λ s duty settings e f. begins_with capacity s (initiator_of s c) duty request b n x.sent [] e
+    (subst (λ (d : DataOut). Write b n x.sent (plan_unless_refused capacity s (initiator_of s c) d request) []) (sym f)
+    (asks_to_force request capacity s (initiator_of s c) x.sent b n [] (subst (λ (m : Settings). AsksToForce request m b n) (sym settings) asks) refl))) in
+    let o = end_owed capacity c end.0.label end.0.state write.reply end.0.ok success in
+    let all = written_at_end b n x.sent o.before o.after write.reply _ (marks_of c write.during) o.follows success
+    (subst (λ (p : Option Plan). Runs (Write b n x.sent) p (marks_of c write.during)) o.owes end.0.inv.plan) in
     (all.rest, end.1 ∙ all.is, all.forced)

@@ -1,33 +1,30 @@
 -- Laws on legal histories, in words on entries alone.
-use Rattle.std.specs.Prelude.{◌≡◌, ℕ, zero, suc, ◌+◌, ◌-◌, ◌<◌, ◌≤◌, ◌==◌, ◌||◌, ◌&&◌, nat_lt, nat_le, Bool, true, false, not, if◌then◌else◌, IsTrue, List, [], ◌∷◌, ◌++◌, fold, filter, length, slice_get, Result, Ok}
+use Rattle.std.specs.Prelude.{◌≡◌, ℕ, zero, suc, ◌+◌, ◌-◌, ◌≤◌, ◌==◌, ◌||◌, Bool, true, false, not, if◌then◌else◌, IsTrue, List, [], ◌∷◌, ◌++◌, fold, filter, length, slice_get, Result, Ok}
 use Rattle.std.specs.List.{list_any, list_all, range_with_len}
 use Rattle.std.specs.Option.{option_map_or}
 use Rattle.disk_base.specs.declared.address.Lba.{Lba}
 use Rattle.disk_base.specs.declared.block.Value.{Value}
 use Rattle.disk_base.specs.declared.block.Value.TheVariants.{Data, Lost}
-use Rattle.disk_base.specs.declared.address.Tag.{Tag}
-use Rattle.disk_base.specs.declared.command.Attribute.{Attribute}
 use Rattle.disk_base.specs.declared.command.DataOut.{DataOut}
 use Rattle.sense_data.specs.declared.sense.Sense.{Sense}
 use Rattle.sense_data.specs.declared.reply.Reply.{Reply}
 use Rattle.sense_data.specs.Attentions.{Waiting}
-use Rattle.cdb_reader.specs.Read.{read_of}
 use Rattle.cdb_reader.specs.Replies.{is_recovered}
 use Rattle.cdb_reader.specs.Request.{Request}
 use Rattle.cdb_reader.specs.Request as request
 use Rattle.cdb_reader.specs.Plan.{block_of}
-use Rattle.block_machine.specs.declared.entry.Who.{Who}
 use Rattle.block_machine.specs.declared.entry.Who.TheVariants.{Command}
 use Rattle.block_machine.specs.declared.entry.Entry.{Entry}
 use Rattle.block_machine.specs.declared.entry.Entry.TheVariants.{Arrived, Started, Get, Put, Harden, Passed, GiveUp, Ended, Aborted, Cut}
 use Rattle.block_machine.specs.declared.turn.Turn.{Turn}
-use Rattle.block_machine.specs.Blocks.{zeros, same_value, is_dirty, blocks_at_start, blocks_after}
+use Rattle.block_machine.specs.Blocks.{zeros, same_value}
 use Rattle.task_set.specs.Members.{numbers}
 use Rattle.mode_pages.specs.declared.settings.Settings.{Settings}
 use Rattle.mode_pages.specs.Settings.{default_settings}
 use Rattle.block_machine.specs.State.{state_at_start}
 use Rattle.block_machine.specs.Steps.{settings_after}
 use Rattle.block_machine.specs.History.{legal_from, task_legal_from, turns_after, entries_of}
+use Rattle.block_machine.specs.Parts.{Answered, Life, GetOf, HardenOf, asked, before_start, since_arrival}
 
 -- turns are a legal history, whatever attentions wait at its start
 abbrev pub IsLegal : ℕ → Waiting → List Turn → Type 0
@@ -47,6 +44,10 @@ renews b other = false
 abbrev pub is_cut : Entry → Bool
 is_cut Cut = true
 is_cut other = false
+
+-- the power stays on along entries
+abbrev pub NoneCuts : List Entry → Type 0
+NoneCuts entries = IsTrue (list_all (λ e. not (is_cut e)) entries)
 
 -- the newest value of a block after an entry
 abbrev pub newest_after : ℕ → Value → Entry → Value
@@ -80,33 +81,28 @@ NoneRenews b entries = IsTrue (list_all (λ e. not (renews b e)) entries)
 -- a law: without a power cut, a read that isn't bad gives the value that was put last, or zeros; so a block that was given up
 -- since is bad
 abbrev pub ReadsGiveWhatWasPutLast : ℕ → List Turn → Type 0
-ReadsGiveWhatWasPutLast capacity turns = (before after : List Entry) (c : ℕ) (b : Lba) (d : List ℕ)
-    → entries_of turns ≡ before ++ Get c b (Data d) ∷ after
-    → IsTrue (list_all (λ e. not (is_cut e)) before)
-    → last_put b.0 before ≡ Data d
+ReadsGiveWhatWasPutLast capacity turns = (b : Lba) (get : GetOf b (entries_of turns)) → NoneCuts get.before → last_put b.0 get.before ≡ Data get.block
 
 -- a law: once hardened, a value is what each later read gives that isn't bad, over any number of power cuts, until a newer one
 -- is put or the block is given up
 abbrev pub HardenedValuesStay : ℕ → List Turn → Type 0
-HardenedValuesStay capacity turns = (before between after : List Entry) (who : Who) (c : ℕ) (b : Lba) (d : List ℕ)
-    → entries_of turns ≡ before ++ Harden who b ∷ (between ++ Get c b (Data d) ∷ after)
-    → NoneRenews b.0 between
-    → last_put b.0 before ≡ Data d
+HardenedValuesStay capacity turns = (b : Lba) (get : GetOf b (entries_of turns)) (harden : HardenOf b get.before)
+    → NoneRenews b.0 harden.behind
+    → last_put b.0 harden.before ≡ Data get.block
 
 -- a law: a read that isn't bad gives the value that was hardened last, zeros where none was, or one that was put since; also
 -- after power cuts
 abbrev pub ReadsGiveHardenedOrNewer : ℕ → List Turn → Type 0
-ReadsGiveHardenedOrNewer capacity turns = (before after : List Entry) (c : ℕ) (b : Lba) (d : List ℕ)
-    → entries_of turns ≡ before ++ Get c b (Data d) ∷ after
-    → IsTrue (list_any (same_value (Data d)) (values_since_hardened b.0 before))
+ReadsGiveHardenedOrNewer capacity turns = (b : Lba) (get : GetOf b (entries_of turns))
+    → IsTrue (list_any (same_value (Data get.block)) (values_since_hardened b.0 get.before))
 
 -- a law: reads of a block after a power cut that aren't bad give one value, over further cuts, as long as nothing newer was put
 -- since the cut and the block wasn't given up
 abbrev pub FirstReadSettles : ℕ → List Turn → Type 0
-FirstReadSettles capacity turns = (before first between after : List Entry) (b : Lba) (c1 c2 : ℕ) (d1 d2 : List ℕ)
-    → entries_of turns ≡ before ++ Cut ∷ (first ++ Get c1 b (Data d1) ∷ (between ++ Get c2 b (Data d2) ∷ after))
-    → NoneRenews b.0 first → NoneRenews b.0 between
-    → d1 ≡ d2
+FirstReadSettles capacity turns = (b : Lba) (later : GetOf b (entries_of turns)) (earlier : GetOf b later.before) (before since : List Entry)
+    → earlier.before ≡ before ++ Cut ∷ since
+    → NoneRenews b.0 since → NoneRenews b.0 earlier.behind
+    → earlier.block ≡ later.block
 
 -- a law: the beginnings of a legal history are legal
 abbrev pub BeginningsAreLegal : Type 0
@@ -141,11 +137,9 @@ AsksToRead other b n = ⊥
 
 -- a law: a read or a verification that ends GOOD, or with a recovered error, got each block of its range once, in order
 abbrev pub ReadsGetEachBlockOnce : ℕ → List Turn → Type 0
-ReadsGetEachBlockOnce capacity turns = (first between after : List Entry) (c i : ℕ) (t : Tag) (a : Attribute)
-    (cdb : List ℕ) (sent : DataOut) (reply : Reply) (b n : ℕ)
-    → entries_of turns ≡ first ++ Arrived c i t a cdb sent ∷ (between ++ Ended c reply ∷ after)
-    → AsksToRead (read_of cdb sent capacity) b n → IsTrue (succeeds reply)
-    → blocks_got c between ≡ range_with_len b n
+ReadsGetEachBlockOnce capacity turns = (read : Answered turns) (b n : ℕ)
+    → AsksToRead (asked capacity read.command) b n → IsTrue (succeeds read.reply)
+    → blocks_got read.command.number read.between ≡ range_with_len b n
 
 -- what a command did on the medium: a block was put with these data, a block was hardened, a range was found hardened
 pub data Mark : Type 0 where
@@ -189,43 +183,19 @@ AsksToForce other settings b n = ⊥
 -- error, has from its arrival on put each of its blocks, once, in order and with its data, and hardened each before it put the next;
 -- what it did besides was to harden before it verified
 abbrev pub ForcedWritesAreHardened : ℕ → List Turn → Type 0
-ForcedWritesAreHardened capacity turns = (first queued between after : List Entry) (c i : ℕ) (t : Tag)
-    (a : Attribute) (cdb : List ℕ) (sent : DataOut) (reply : Reply) (b n : ℕ)
-    → entries_of turns ≡ first ++ Arrived c i t a cdb sent ∷ (queued ++ Started c ∷ (between ++ Ended c reply ∷ after))
-    → AsksToForce (read_of cdb sent capacity) (settings_left (first ++ Arrived c i t a cdb sent ∷ queued)) b n → IsTrue (succeeds reply)
-    → (rest : List Mark) × (marks_of c (queued ++ Started c ∷ between) ≡ written_through b sent n ++ rest) × IsTrue (list_all is_forced rest)
-
--- a mark says that a block was hardened, or found hardened
-abbrev pub covers : ℕ → Mark → Bool
-covers x (Wrote b block) = false
-covers x (Forced b) = b == x
-covers x (Found from to) = nat_le from x && nat_lt x to
-
--- a sync of so many blocks from one on
-abbrev pub AsksToSync : Result Request Sense → ℕ → ℕ → Type 0
-AsksToSync (Ok (request.SynchronizeCache from count)) b n = (from ≡ b) × (count ≡ n)
-AsksToSync other b n = ⊥
-
--- a law: when a sync ends GOOD, each block of its range was, at some moment since its start, without a value that isn't hardened:
--- the entries between part at that moment
-abbrev pub SyncsFindEachBlockHardened : ℕ → List Turn → Type 0
-SyncsFindEachBlockHardened capacity turns = (first queued between after : List Entry) (c i : ℕ) (t : Tag)
-    (a : Attribute) (cdb : List ℕ) (sent : DataOut) (reply : Reply) (b n x : ℕ)
-    → entries_of turns ≡ first ++ Arrived c i t a cdb sent ∷ (queued ++ Started c ∷ (between ++ Ended c reply ∷ after))
-    → AsksToSync (read_of cdb sent capacity) b n → IsTrue (succeeds reply)
-    → b ≤ x → x < b + n
-    → (part rest : List Entry) × (between ≡ part ++ rest)
-    × (is_dirty (fold blocks_after blocks_at_start (first ++ Arrived c i t a cdb sent ∷ (queued ++ Started c ∷ part)) x) ≡ false)
+ForcedWritesAreHardened capacity turns = (write : Life turns) (b n : ℕ)
+    → AsksToForce (asked capacity write.command) (settings_left (before_start write)) b n → IsTrue (succeeds write.reply)
+    → (rest : List Mark)
+    × (marks_of write.command.number (since_arrival write) ≡ written_through b write.command.sent n ++ rest) × IsTrue (list_all is_forced rest)
 
 -- numbers without this one
 abbrev pub left_out : ℕ → List ℕ → List ℕ
 left_out c numbers = filter (λ d. not (d == c)) numbers
 
--- what has become of commands: the numbers of those that are in, and of those that ended or were aborted; and how many came, ended
--- with a reply, were aborted by a function, and were in when the power went off
+-- what has become of commands: the numbers of those that are in; and how many came, ended with a reply, were aborted by a function,
+-- and were in when the power went off
 pub record Tally : Type 0 where
   pub inside : List ℕ
-  pub gone : List ℕ
   pub came : ℕ
   pub ended : ℕ
   pub aborted : ℕ
@@ -233,13 +203,13 @@ pub record Tally : Type 0 where
 
 -- before the first entry no command came
 abbrev pub tally_at_start : Tally
-tally_at_start = record { inside = []; gone = []; came = 0; ended = 0; aborted = 0; cut = 0 }
+tally_at_start = record { inside = []; came = 0; ended = 0; aborted = 0; cut = 0 }
 
 -- what has become of commands, after an entry
 abbrev pub tally_after : Tally → Entry → Tally
 tally_after t (Arrived c i tag a cdb sent) = record t { inside = t.inside ++ c ∷ []; came = t.came + 1 }
-tally_after t (Ended c reply) = record t { inside = left_out c t.inside; gone = t.gone ++ c ∷ []; ended = t.ended + 1 }
-tally_after t (Aborted c) = record t { inside = left_out c t.inside; gone = t.gone ++ c ∷ []; aborted = t.aborted + 1 }
+tally_after t (Ended c reply) = record t { inside = left_out c t.inside; ended = t.ended + 1 }
+tally_after t (Aborted c) = record t { inside = left_out c t.inside; aborted = t.aborted + 1 }
 tally_after t Cut = record t { inside = []; cut = t.cut + length t.inside }
 tally_after t other = t
 
@@ -272,14 +242,10 @@ is_end_of c other = false
 
 -- a law: no command has two ends, of either kind
 abbrev pub NoneEndsTwice : ℕ → List Turn → Type 0
-NoneEndsTwice capacity turns = (before between after : List Entry) (c : ℕ) (one another : Entry)
-    → entries_of turns ≡ before ++ one ∷ (between ++ another ∷ after)
-    → IsTrue (is_end_of c one) → IsTrue (is_end_of c another) → ⊥
+NoneEndsTwice capacity turns = (c : ℕ) → length (filter (is_end_of c) (entries_of turns)) ≤ 1
 
 -- a law: a command that ends with success started before
 abbrev pub SuccessesFollowStarts : ℕ → List Turn → Type 0
-SuccessesFollowStarts capacity turns = (first between after : List Entry) (c i : ℕ) (t : Tag) (a : Attribute)
-    (cdb : List ℕ) (sent : DataOut) (reply : Reply)
-    → entries_of turns ≡ first ++ Arrived c i t a cdb sent ∷ (between ++ Ended c reply ∷ after)
-    → IsTrue (succeeds reply)
-    → (queued rest : List Entry) × (between ≡ queued ++ Started c ∷ rest)
+SuccessesFollowStarts capacity turns = (done : Answered turns)
+    → IsTrue (succeeds done.reply)
+    → (queued rest : List Entry) × (done.between ≡ queued ++ Started done.command.number ∷ rest)

@@ -10,6 +10,7 @@ pub mod Steps
 pub mod Entries
 pub mod Turns
 pub mod History
+pub mod Parts
 pub mod Laws
 pub mod KeptValues
 pub mod Lives

@@ -1,6 +1,6 @@
 //! Laws on legal histories: each is the clause of a function that does nothing.
 
-ghost use Rattle.block_machine.specs.Laws.{OfLegalHistories, OfTaskLegalHistories, ReadsGiveWhatWasPutLast, HardenedValuesStay, ReadsGiveHardenedOrNewer, FirstReadSettles, BeginningsAreLegal, ReadsGetEachBlockOnce, ForcedWritesAreHardened, SyncsFindEachBlockHardened, CommandsAreAccountedFor, EndsHaveTheirStatus, NoneEndsTwice, SuccessesFollowStarts};
+ghost use Rattle.block_machine.specs.Laws.{OfLegalHistories, OfTaskLegalHistories, ReadsGiveWhatWasPutLast, HardenedValuesStay, ReadsGiveHardenedOrNewer, FirstReadSettles, BeginningsAreLegal, ReadsGetEachBlockOnce, ForcedWritesAreHardened, CommandsAreAccountedFor, EndsHaveTheirStatus, NoneEndsTwice, SuccessesFollowStarts};
 ghost use Rattle.block_machine.specs.KeptValues.{ReadsGiveTheirOwnWrite, RuledOutValuesStayOut, DirtyBlocksArePending};
 ghost use Rattle.block_machine.specs.Lives.{WritesPutEachBlockOnce, SyncsHardenWhatWasPut, ForcedWritesStand, SyncedValuesStand};
 ghost use Rattle.block_machine.specs.Stages.{EntriesFitTheirStage};
@@ -45,11 +45,6 @@ pub fn forced_writes_are_hardened()
     ensures { OfTaskLegalHistories ForcedWritesAreHardened }
 {}
 
-/// When a sync ends GOOD, each block of its range was, at some moment since its start, without a value that isn't hardened.
-pub fn syncs_find_each_block_hardened()
-    ensures { OfLegalHistories SyncsFindEachBlockHardened }
-{}
-
 /// The commands that came are those that ended, were aborted, were cut off, and are still in. Each end is GOOD, CHECK
 /// CONDITION or TASK SET FULL; none has two ends, of which one may be an abort; and one that ends with success started.
 pub fn commands_are_accounted_for()
@@ -88,8 +83,8 @@ pub fn entries_fit_their_stage()
     ensures { OfTaskLegalHistories EntriesFitTheirStage }
 {}
 
-/// What was put at a block of a sync's range before the sync started is hardened before the sync ends GOOD, where the power stayed
-/// on from the put to the start.
+/// What was put at a block of a sync's range before the sync started, or that the block was given up, is hardened before the sync
+/// ends GOOD, where the power stayed on from then to the start.
 pub fn syncs_harden_what_was_put()
     ensures { OfLegalHistories SyncsHardenWhatWasPut }
 {}

@@ -14,6 +14,6 @@ pub use laws::{
     entries_fit_their_stage, first_read_settles, forced_writes_are_hardened, hardened_values_stay,
     hardened_writes_stand, reads_get_each_block_once, reads_give_hardened_or_newer,
     reads_give_their_own_write, reads_give_what_was_put_last, ruled_out_values_stay_out,
-    syncs_find_each_block_hardened, syncs_harden_what_was_put, writes_put_each_block_once,
+    syncs_harden_what_was_put, writes_put_each_block_once,
 };
 pub use turn::{Label, Turn, Turns};

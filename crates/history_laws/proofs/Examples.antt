@@ -1,6 +1,6 @@
 -- For each law a history that meets its premises, and one that would break it and isn't legal.
-use Rattle.std.proofs.Common.{◌≡◌, ℕ, true, false, List, [], ◌∷◌, ◌++◌, refl}
-use Rattle.std.specs.Prelude.{Some, None}
+use Rattle.std.proofs.Common.{◌≡◌, ℕ, true, false, List, [], ◌∷◌, ◌++◌, length, refl}
+use Rattle.std.specs.Prelude.{filter, Some, None}
 use Rattle.disk_base.specs.Along.{all_along}
 use Rattle.disk_base.specs.declared.command.Attribute.TheVariants.{Ordered, Head}
 use Rattle.disk_base.specs.declared.command.DataOut.TheVariants.{Nothing, Fill}
@@ -8,9 +8,10 @@ use Rattle.cdb_reader.specs.Operation.{operation_of}
 use Rattle.block_machine.specs.declared.entry.Recovered.TheVariants.{Ready}
 use Rattle.block_machine.specs.declared.turn.Turn.{Turn}
 use Rattle.block_machine.specs.History.{entries_of}
+use Rattle.block_machine.specs.Laws.{is_end_of}
 use Rattle.block_machine.specs.KeptValues.{is_pending}
 use Rattle.block_machine.specs.Stages.{Coming, stage_after, fits_stage}
-use Rattle.block_machine.proofs.Building.{read, write, sync, test_unit_ready, comes, comes_as, sends, starts, at_once, works, get, get_bad, put, hard, pass, good, fails_at, cut, power, told, reads, reads_bad, writes, forces, is_legal}
+use Rattle.block_machine.proofs.Building.{read, write, verify, forced_write, write_and_verify, sync, reassign, blocks_named, test_unit_ready, moves, lose, comes, comes_as, sends, starts, at_once, works, get, get_bad, put, hard, pass, good, fails_at, cut, power, told, reads, reads_bad, writes, forces, is_legal}
 use Rattle.history_laws.specs.Order.{inside_after, starts_in_order}
 use Rattle.history_laws.specs.Unread.{last_bad}
 
@@ -50,6 +51,39 @@ sync_hardens : (is_legal (sync_behind ++ works 2 (hard 2 5 ∷ good 2 ∷ []) �
     × (is_legal (sync_behind ++ works 2 (good 2 ∷ []) ∷ []) ≡ false)
 unfolding operation_of sync_behind
 sync_hardens = (refl, refl, refl)
+
+-- .. and behind a block that was given up
+sync_behind_loss : List Turn
+sync_behind_loss = moves 1 (lose 5 ∷ []) ∷ comes 1 1 (sync 5 1) ∷ starts 1 ∷ []
+
+sync_hardens_loss : (is_legal (sync_behind_loss ++ works 1 (hard 1 5 ∷ good 1 ∷ []) ∷ []) ≡ true)
+    × (is_legal (sync_behind_loss ++ works 1 (pass 1 5 6 ∷ good 1 ∷ []) ∷ []) ≡ false)
+    × (is_legal (sync_behind_loss ++ works 1 (good 1 ∷ []) ∷ []) ≡ false)
+unfolding operation_of sync_behind_loss
+sync_hardens_loss = (refl, refl, refl)
+
+-- a read of two blocks: both, one alone, and one twice
+read_of_two : List Turn
+read_of_two = comes 1 1 (read 5 2) ∷ starts 1 ∷ []
+
+gets_each : (is_legal (read_of_two ++ works 1 (get 1 5 0 ∷ get 1 6 0 ∷ good 1 ∷ []) ∷ []) ≡ true)
+    × (is_legal (read_of_two ++ works 1 (get 1 5 0 ∷ good 1 ∷ []) ∷ []) ≡ false)
+    × (is_legal (read_of_two ++ works 1 (get 1 5 0 ∷ get 1 5 0 ∷ good 1 ∷ []) ∷ []) ≡ false)
+unfolding operation_of read_of_two
+gets_each = (refl, refl, refl)
+
+-- a write with FUA hardens, and isn't over before
+forces_each : (is_legal (forces 1 5 1) ≡ true) × (is_legal (sends 1 1 (forced_write 5 1) (Fill 1) ∷ starts 1 ∷ works 1 (put 1 5 1 ∷ good 1 ∷ []) ∷ []) ≡ false)
+unfolding operation_of
+forces_each = (refl, refl)
+
+-- a command that succeeds started, and ends once
+one_end : (is_legal (reads 1 5 0) ≡ true) × (is_legal (comes 1 1 test_unit_ready ∷ works 1 (good 1 ∷ []) ∷ []) ≡ false) × (is_legal (reads 1 5 0 ++ works 1 (good 1 ∷ []) ∷ []) ≡ false)
+unfolding operation_of
+one_end = (refl, refl, refl)
+
+ends_told : (length (filter (is_end_of 1) (entries_of (reads 1 5 0))) ≡ 1) × (length (filter (is_end_of 1) (entries_of (reads 1 5 0 ++ works 1 (good 1 ∷ []) ∷ []))) ≡ 2)
+ends_told = (refl, refl)
 
 -- what went through, or was synced, is read after a cut; what was there before it isn't
 forced_stands : (is_legal (forces 1 5 1 ++ off_and_on 2 ++ reads 3 5 1) ≡ true) × (is_legal (forces 1 5 1 ++ off_and_on 2 ++ reads 3 5 0) ≡ false)
@@ -111,6 +145,18 @@ unread = (refl, refl, refl)
 unread_at_once : is_legal (comes 1 1 (read 5 1) ∷ starts 1 ∷ works 1 (get_bad 1 5 ∷ []) ∷ works 1 (fails_at 1 3 0x11 0x00 5 ∷ []) ∷ []) ≡ false
 unfolding operation_of
 unread_at_once = refl
+
+-- a verification ends so, too, and a WRITE AND VERIFY; a sync and a REASSIGN BLOCKS don't
+unread_verified : (is_legal (comes 1 1 (verify 5 1) ∷ starts 1 ∷ works 1 (get_bad 1 5 ∷ fails_at 1 3 0x11 0x00 5 ∷ []) ∷ []) ≡ true)
+    × (is_legal (sends 1 1 (write_and_verify 5 1) (Fill 1) ∷ starts 1 ∷ works 1 (put 1 5 1 ∷ hard 1 5 ∷ []) ∷ works 1 (get_bad 1 5 ∷ fails_at 1 3 0x11 0x00 5 ∷ []) ∷ []) ≡ true)
+unfolding operation_of
+unread_verified = (refl, refl)
+
+unread_never : (is_legal (comes 1 1 (sync 5 1) ∷ starts 1 ∷ works 1 (fails_at 1 3 0x11 0x00 5 ∷ []) ∷ []) ≡ false)
+    × (is_legal (sends 1 1 reassign (blocks_named (5 ∷ [])) ∷ starts 1 ∷ works 1 (fails_at 1 3 0x11 0x00 5 ∷ []) ∷ []) ≡ false)
+    × (is_legal (comes 1 1 test_unit_ready ∷ at_once 1 (fails_at 1 3 0x11 0x00 5 ∷ []) ∷ []) ≡ false)
+unfolding operation_of
+unread_never = (refl, refl, refl)
 
 bad_told : (last_bad 1 (get_bad 1 5 ∷ get 2 6 0 ∷ []) ≡ Some 5) × (last_bad 1 (get_bad 1 5 ∷ get 1 6 0 ∷ []) ≡ None) × (last_bad 1 (get_bad 2 5 ∷ []) ≡ None)
 bad_told = (refl, refl, refl)

@@ -1,3 +1,4 @@
 mod Examples
 pub mod OrderLaw
+pub mod Refusals
 pub mod UnreadLaw

@@ -10,8 +10,8 @@ pub fn tasks_start_in_order()
     ensures { OfTaskLegalHistories TasksStartInOrder }
 {}
 
-/// Where a read, a verification or a WRITE AND VERIFY ends with UNRECOVERED READ ERROR at a block, the last that it did to a
-/// block was a bad get of this one.
+/// Where a command ends with UNRECOVERED READ ERROR at a block, whatever it asked for, the last that it did to a block in this turn
+/// was a bad get of this one.
 pub fn unread_ends_follow_bad_gets()
     ensures { OfTaskLegalHistories UnreadEndsFollowBadGets }
 {}
