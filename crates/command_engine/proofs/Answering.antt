@@ -28,11 +28,11 @@ plan_after-append (Some plan) (deed ∷ first) others = plan_after-append (next 
 -- the deeds of one answer
 pub one : (known : Known) (c : Course) (a : Answer) → IsCourse c → IsTrue (fits c a)
     → plan_after (Some (with_page known.page c.plan)) (deeds_of c a known) ≡ Some (with_page known.page (after c a).plan)
-one known c a is fit = owes c.settings.retry known c.plan c.step a (fit_of c.settings.awre c.plan c.step a fit) is.under_way
+one known c a is fit = owes c.settings.retry c.moved known c.plan c.step a (fit_of c.settings.awre c.moved c.plan c.step a fit) is.under_way
 
 -- one answer less
 pub nearer : (c : Course) (a : Answer) → IsCourse c → IsTrue (fits c a) → answers_left (after c a) < answers_left c
-nearer c a is fit = near c.settings.retry c.plan c.step a (fit_of c.settings.awre c.plan c.step a fit) is.under_way
+nearer c a is fit = near c.settings.retry c.moved c.plan c.step a (fit_of c.settings.awre c.moved c.plan c.step a fit) is.under_way
 
 pub beginning : DeedsAreThoseOfThePlan
 beginning page c [] is fitting = refl

@@ -4,20 +4,24 @@ use Rattle.std.specs.Prelude.{Option, replicate, pos}
 use Rattle.disk_base.specs.declared.block.Value.TheVariants.{Data, Lost}
 use Rattle.disk_base.specs.declared.command.DataOut.TheVariants.{Fill}
 use Rattle.disk_base.specs.declared.stage.How.TheVariants.{Light}
+use Rattle.disk_base.specs.declared.stage.MoveWhy.TheVariants.{Dirty, Reassign, GivenUp}
 use Rattle.disk_base.specs.Along.{all_along}
 use Rattle.sense_data.specs.declared.reply.Reply.{Reply}
 use Rattle.sense_data.specs.Sense.{sense_of}
 use Rattle.read_recovery.specs.Stages.{stage}
 use Rattle.mode_pages.specs.declared.settings.Settings.{Settings}
-use Rattle.cdb_reader.specs.Replies.{good, check_condition, medium_error, unrecovered_read}
-use Rattle.cdb_reader.specs.Request.{Request, Read, Write, WriteAndVerify, Verify, SynchronizeCache, Inquiry, ReadDefectData}
+use Rattle.cdb_reader.specs.Replies.{good, check_condition, medium_error, unrecovered_read, no_spare}
+use Rattle.cdb_reader.specs.Request.{Request, ReassignBlocks, Read, Write, WriteAndVerify, Verify, SynchronizeCache, Inquiry, ReadDefectData}
+use Rattle.cdb_reader.specs.declared.plan.Deed.{Deed}
+use Rattle.cdb_reader.specs.declared.plan.Deed.TheVariants as deed
+use Rattle.cdb_reader.specs.declared.plan.Plan.TheVariants as plan
 use Rattle.command_engine.specs.declared.answer.Answer.{Answer}
-use Rattle.command_engine.specs.declared.answer.Answer.TheVariants.{Got, Missed, Put, Hardened, WriteFault, NextDirty, Paged}
+use Rattle.command_engine.specs.declared.answer.Answer.TheVariants.{Got, Missed, Put, Hardened, WriteFault, NextDirty, Moved, NoSpare, Paged}
 use Rattle.command_engine.specs.declared.need.Need.TheVariants as need
 use Rattle.command_engine.specs.Course.{Course, course_of}
 use Rattle.command_engine.specs.Need.{lba, need_of}
 use Rattle.command_engine.specs.Ending.{ending_of}
-use Rattle.command_engine.specs.Answers.{fits, after}
+use Rattle.command_engine.specs.Answers.{fits, after, deeds_of}
 
 -- two retries, recovered errors reported, no reallocation; and the same with it
 abbrev plain : Settings
@@ -126,6 +130,89 @@ not_before_the_range = refl
 
 not_behind_the_range : fit (SynchronizeCache 3 9) plain (dirty_at 12 ∷ []) ≡ false
 not_behind_the_range = refl
+
+-- blocks to be moved: the first is dirty, the second is found by the plain read
+abbrev two : Request
+two = ReassignBlocks (lba 5 ∷ lba 9 ∷ [])
+
+two_fit : fit two plain (dirty_at 5 ∷ Moved ∷ got ∷ Moved ∷ []) ≡ true
+two_fit = refl
+
+dirty_is_moved : need_of (then (of_sevens two plain) (dirty_at 5 ∷ [])) ≡ need.Move (lba 5) Dirty
+dirty_is_moved = refl
+
+found_is_moved : need_of (then (of_sevens two plain) (dirty_at 5 ∷ Moved ∷ got ∷ [])) ≡ need.Move (lba 9) Reassign
+found_is_moved = refl
+
+lost_mark_is_moved : need_of (then (of_sevens two plain) (Got Lost ∷ [])) ≡ need.Move (lba 5) Reassign
+lost_mark_is_moved = refl
+
+two_are_good : ends two (dirty_at 5 ∷ Moved ∷ got ∷ Moved ∷ []) ≡ Some good
+two_are_good = refl
+
+one_is_not_enough : ends two (dirty_at 5 ∷ Moved ∷ got ∷ []) ≡ None
+one_is_not_enough = refl
+
+-- what is read for a move comes from the medium, and no value is moved that isn't known
+read_for_a_move : need_of (of_sevens two plain) ≡ need.Take (lba 5) true (stage 0 0 (pos 0) Light)
+read_for_a_move = refl
+
+not_moved_unread : fit two plain (Moved ∷ []) ≡ false
+not_moved_unread = refl
+
+-- the deeds of a move: that of a dirty block hardens it, that of a found one leaves none
+abbrev deeds_then : List Answer → Answer → List Deed
+deeds_then answers a = deeds_of (then (of_sevens two plain) answers) a (record { page = []; dirty = true; full = false })
+
+dirty_is_hardened : deeds_then (dirty_at 5 ∷ []) Moved ≡ deed.Hardened (lba 5) ∷ []
+dirty_is_hardened = refl
+
+found_is_not_hardened : deeds_then (got ∷ []) Moved ≡ []
+found_is_not_hardened = refl
+
+read_for_a_move_is_no_get : deeds_then [] got ≡ []
+read_for_a_move_is_no_get = refl
+
+-- a block that every stage fails of is given up: it is lost, and moved as that
+abbrev seven : List Answer
+seven = Missed ∷ Missed ∷ Missed ∷ Missed ∷ Missed ∷ Missed ∷ Missed ∷ []
+
+given_up_is_moved : need_of (then (of_sevens two plain) seven) ≡ need.Move (lba 5) GivenUp
+given_up_is_moved = refl
+
+given_up_is_hardened : deeds_then seven Moved ≡ deed.Hardened (lba 5) ∷ []
+given_up_is_hardened = refl
+
+given_up_leaves_no_get : deeds_then (Missed ∷ Missed ∷ Missed ∷ Missed ∷ Missed ∷ Missed ∷ []) Missed ≡ []
+given_up_leaves_no_get = refl
+
+-- without a spare a list ends at the first block that isn't reassigned
+spareless_at_the_first : ends two (got ∷ NoSpare ∷ []) ≡ Some (no_spare 5)
+spareless_at_the_first = refl
+
+spareless_at_the_second : ends two (got ∷ Moved ∷ got ∷ NoSpare ∷ []) ≡ Some (no_spare 9)
+spareless_at_the_second = refl
+
+nothing_after_no_spare : fit two plain (got ∷ NoSpare ∷ got ∷ []) ≡ false
+nothing_after_no_spare = refl
+
+-- a block that is named twice is moved twice; its hardening counts at its first place among those left
+abbrev same_twice : Request
+same_twice = ReassignBlocks (lba 5 ∷ lba 5 ∷ [])
+
+moved_twice : ends same_twice (got ∷ Moved ∷ dirty_at 5 ∷ Moved ∷ []) ≡ Some good
+moved_twice = refl
+
+not_moved_once : ends same_twice (got ∷ Moved ∷ []) ≡ None
+not_moved_once = refl
+
+hardened_at_its_first_place : (then (of_sevens same_twice plain) (got ∷ Moved ∷ dirty_at 5 ∷ Moved ∷ [])).plan
+    ≡ plan.Moving (record { blocks = lba 5 ∷ lba 5 ∷ []; hardened = 1 })
+hardened_at_its_first_place = refl
+
+-- no blocks
+no_blocks_are_good : ends (ReassignBlocks []) [] ≡ Some good
+no_blocks_are_good = refl
 
 -- bytes that aren't blocks
 page_is_given : ends (Inquiry false 0 36) (Paged ∷ []) ≡ Some good

@@ -1,4 +1,5 @@
 mod Stages
+mod Lists
 mod Fit
 mod Owes
 mod Keeps

@@ -1,5 +1,5 @@
 -- The deeds of an answer that fits may come by the plan, and leave what is owed then.
-use Rattle.std.proofs.Common.{◌≡◌, ℕ, ◌-◌, ◌+◌, ◌<◌, ◌≤◌, Bool, true, false, not, ◌&&◌, ◌||◌, ◌==◌, nat_lt, List, [], ◌∷◌, Some, refl, sym, ap, ◌∙◌, eq-eqb, arith}
+use Rattle.std.proofs.Common.{◌≡◌, ℕ, ◌-◌, ◌+◌, ◌<◌, ◌≤◌, Bool, true, false, not, ◌&&◌, ◌||◌, ◌==◌, nat_lt, List, [], ◌∷◌, Some, None, refl, sym, ap, ◌∙◌, eq-eqb, arith}
 use Rattle.std.specs.Prelude.{is_none, if◌then◌else◌}
 use Rattle.std.specs.Str.{bytes_eq}
 use Rattle.std.proofs.lemmas.Bool.{le-leb, ltb-false, and_from}
@@ -10,8 +10,9 @@ use Rattle.read_recovery.specs.Stages.{next_stage, answered}
 use Rattle.cdb_reader.specs.declared.plan.Reading as reading
 use Rattle.cdb_reader.specs.declared.plan.Writing as writing
 use Rattle.cdb_reader.specs.declared.plan.Syncing as syncing
+use Rattle.cdb_reader.specs.declared.plan.Moving as moving
 use Rattle.cdb_reader.specs.declared.plan.Plan.{Plan}
-use Rattle.cdb_reader.specs.declared.plan.Plan.TheVariants.{Reading, Writing, Syncing, Unread}
+use Rattle.cdb_reader.specs.declared.plan.Plan.TheVariants.{Reading, Writing, Syncing, Moving, Unread}
 use Rattle.cdb_reader.specs.declared.plan.Deed.{Deed}
 use Rattle.cdb_reader.specs.declared.plan.Deed.TheVariants as deed
 use Rattle.cdb_reader.specs.Plan.{plan_after, next, when, block_of, after_written, reading_from}
@@ -19,11 +20,12 @@ use Rattle.command_engine.specs.declared.answer.Answer.{Answer}
 use Rattle.command_engine.specs.declared.answer.Answer.TheVariants as answer
 use Rattle.command_engine.specs.declared.step.Step.{Step}
 use Rattle.command_engine.specs.declared.need.Need.TheVariants as need
-use Rattle.command_engine.specs.Need.{need_by}
+use Rattle.command_engine.specs.Need.{need_by, in_hand}
 use Rattle.command_engine.specs.Course.{next_block}
 use Rattle.command_engine.specs.Standing.{IsUnderWay}
-use Rattle.command_engine.specs.Answers.{Known, deeds, gives_up, owed_after, with_page}
-use Rattle.command_engine.proofs.Fit.{Fit, read_found, read_lost, read_missed, read_dirty, read_hardened, read_faulted, write_put, write_hardened, write_faulted, sync_clean, sync_dirty, sync_hardened, sync_faulted, paged}
+use Rattle.command_engine.specs.Answers.{Known, deeds, gives_up, is_moving, settles, settled, past, owed_after, with_page}
+use Rattle.command_engine.proofs.Fit.{Fit, read_found, read_lost, read_missed, read_dirty, read_hardened, read_faulted, write_put, write_hardened, write_faulted, sync_clean, sync_dirty, sync_hardened, sync_faulted, paged, list_found, list_missed, list_dirty, list_moved, list_spareless}
+use Rattle.command_engine.proofs.Lists.{may_harden, past_is}
 
 abbrev lba : ℕ → Lba
 lba b = record { 0 = b }
@@ -53,7 +55,7 @@ same_bytes : (bytes : List ℕ) → bytes_eq bytes bytes ≡ true
 same_bytes bytes = (bytes_eq-Decides bytes bytes).1 refl
 
 missed : (page : List ℕ) (r : reading.Reading) (lost : Bool) → nat_lt r.at r.end ≡ true
-    → plan_after (Some (Reading r)) (if lost then deed.Got (lba r.at) Lost false ∷ [] else []) ≡ Some (with_page page (if lost then Unread r.at else Reading r))
+    → plan_after (Some (Reading r)) (if lost && true then deed.Got (lba r.at) Lost false ∷ [] else []) ≡ Some (with_page page (if lost then Unread r.at else Reading r))
 missed page r true left = may _ _ (and_from _ _ (and_from _ _ (eq-eqb r.at r.at refl) left) (nor_false r.through))
 missed page r false left = refl
 
@@ -74,7 +76,7 @@ putting w left owes_none =
     and_from _ _ (and_from _ _ (and_from _ _ (ap not owes_none) (eq-eqb w.at w.at refl)) left) (same_bytes (block_of w.sent (w.at - w.from)))
 
 put : (known : Known) (w : writing.Writing) (through : Bool) → nat_lt w.at w.end ≡ true → w.owes_harden ≡ false → w.through ≡ through → through ≡ false
-    → plan_after (Some (Writing w)) (deeds known false (block_of w.sent (w.at - w.from)) (if through then need.PutThrough (lba w.at) else need.Put (lba w.at)) answer.Put)
+    → plan_after (Some (Writing w)) (deeds known false false (block_of w.sent (w.at - w.from)) (if through then need.PutThrough (lba w.at) else need.Put (lba w.at)) answer.Put)
     ≡ Some (with_page known.page (after_written w))
 put known w false left owes_none is never =
     may_or _ (w.through || false) _ _ (putting w left owes_none) (ap (λ t. t || false) is) ∙ written known.page w
@@ -88,13 +90,13 @@ hardened_at_once page w full left owes_none at_once =
 
 -- the same where writes go through, and where the cache is full
 put_hardened : (known : Known) (w : writing.Writing) (through : Bool) → nat_lt w.at w.end ≡ true → w.owes_harden ≡ false → w.through ≡ through
-    → plan_after (Some (Writing w)) (deeds known false (block_of w.sent (w.at - w.from)) (if through then need.PutThrough (lba w.at) else need.Put (lba w.at)) answer.Hardened)
+    → plan_after (Some (Writing w)) (deeds known false false (block_of w.sent (w.at - w.from)) (if through then need.PutThrough (lba w.at) else need.Put (lba w.at)) answer.Hardened)
     ≡ Some (with_page known.page (after_written w))
 put_hardened known w true left owes_none is = hardened_at_once known.page w known.full left owes_none (ap (λ t. t || known.full) is)
 put_hardened known w false left owes_none is = hardened_at_once known.page w true left owes_none (ap (λ t. t || true) is)
 
 faulted : (known : Known) (w : writing.Writing) (through : Bool)
-    → plan_after (Some (Writing w)) (deeds known false (block_of w.sent (w.at - w.from)) (if through then need.PutThrough (lba w.at) else need.Put (lba w.at)) answer.WriteFault)
+    → plan_after (Some (Writing w)) (deeds known false false (block_of w.sent (w.at - w.from)) (if through then need.PutThrough (lba w.at) else need.Put (lba w.at)) answer.WriteFault)
     ≡ Some (Writing w)
 faulted known w true = refl
 faulted known w false = refl
@@ -107,25 +109,42 @@ passed page s b false is low high =
     let e : s.at ≡ b.0 = omega (arith, ltb-false s.at b.0 is) in
     ap (λ at. Some (Syncing (record s { at = at }))) e
 
-pub owes : (retry : ℕ) (known : Known) (plan : Plan) (step : Step) (a : Answer) → Fit plan step a → IsUnderWay retry plan step
-    → plan_after (Some (with_page known.page plan)) (deeds known (gives_up step a) (next_block plan) (need_by plan step) a)
-    ≡ Some (with_page known.page (owed_after plan (gives_up step a) a))
-owes retry known _ _ _ (read_found r p stage d left is) way =
+-- a block of a list is moved
+list_moves : (page : List ℕ) (m : moving.Moving) (moved : ℕ) (b : Lba) (hardens : Bool) → in_hand m moved ≡ Some b → m.hardened ≤ moved
+    → plan_after (Some (Moving m)) (if hardens then deed.Hardened b ∷ [] else []) ≡ Some (with_page page (past m (if hardens then Some b else None)))
+list_moves page m moved b true hand low =
+    let after = past_is m moved b true hand low in
+    ap (λ plan. plan_after plan []) (may_harden m moved b hand low ∙ ap (λ plan. Some plan) after.1.0) ∙ ap (λ plan. Some (with_page page plan)) (sym after.1.0)
+list_moves page m moved b false hand low = refl
+
+no_deed : (m : moving.Moving) (lost : Bool) (b : Lba) → plan_after (Some (Moving m)) (if lost && false then deed.Got b Lost false ∷ [] else []) ≡ Some (Moving m)
+no_deed m true b = refl
+no_deed m false b = refl
+
+pub owes : (retry moved : ℕ) (known : Known) (plan : Plan) (step : Step) (a : Answer) → Fit moved plan step a → IsUnderWay retry plan moved step
+    → plan_after (Some (with_page known.page plan)) (deeds known (gives_up step a) (is_moving plan) (next_block plan) (need_by plan moved step) a)
+    ≡ Some (with_page known.page (owed_after plan (gives_up step a) (settled plan moved step) a))
+owes retry moved known _ _ _ (read_found r p stage d left is) way =
     rw (left, is) (may _ _ (and_from _ _ (and_from _ _ (eq-eqb r.at r.at refl) left) (from_medium r.through known.dirty)))
-owes retry known _ _ _ (read_lost r p stage left is) way =
+owes retry moved known _ _ _ (read_lost r p stage left is) way =
     rw (left, is) (may _ _ (and_from _ _ (and_from _ _ (eq-eqb r.at r.at refl) left) (from_medium r.through known.dirty)))
-owes retry known _ _ _ (read_missed r p stage left is) way =
+owes retry moved known _ _ _ (read_missed r p stage left is) way =
     rw (left, is) (missed known.page r (is_none (next_stage (answered p false))) left)
-owes retry known _ _ _ (read_dirty r p stage b left is through unhardened) way = rw (left, is) refl
-owes retry known _ _ _ (read_hardened r left) way =
+owes retry moved known _ _ _ (read_dirty r p stage b left is through unhardened) way = rw (left, is) refl
+owes retry moved known _ _ _ (read_hardened r left) way =
     rw left (may _ _ (and_from _ _ (and_from _ _ (and_from _ _ way.through.0 (ap not way.through.1)) (eq-eqb r.at r.at refl)) left))
-owes retry known _ _ _ (read_faulted r left) way = rw left refl
-owes retry known _ _ _ (write_put w p left through) way = rw left (put known w w.through left way.hardened refl through)
-owes retry known _ _ _ (write_hardened w p left) way = rw left (put_hardened known w w.through left way.hardened refl)
-owes retry known _ _ _ (write_faulted w p left) way = rw left (faulted known w w.through)
-owes retry known _ _ _ (sync_clean s p left) way =
+owes retry moved known _ _ _ (read_faulted r left) way = rw left refl
+owes retry moved known _ _ _ (write_put w p left through) way = rw left (put known w w.through left way.hardened refl through)
+owes retry moved known _ _ _ (write_hardened w p left) way = rw left (put_hardened known w w.through left way.hardened refl)
+owes retry moved known _ _ _ (write_faulted w p left) way = rw left (faulted known w w.through)
+owes retry moved known _ _ _ (sync_clean s p left) way =
     rw left (may _ _ (and_from _ _ (and_from _ _ (eq-eqb s.at s.at refl) left) (le-leb s.end s.end (omega arith))))
-owes retry known _ _ _ (sync_dirty s p b left low high) way = rw left (passed known.page s b (nat_lt s.at b.0) refl low high)
-owes retry known _ _ _ (sync_hardened s left) way = rw left (may _ _ (and_from _ _ (eq-eqb s.at s.at refl) left))
-owes retry known _ _ _ (sync_faulted s left) way = rw left refl
-owes retry known _ _ _ (paged bytes reply step) way = may _ _ (same_bytes known.page)
+owes retry moved known _ _ _ (sync_dirty s p b left low high) way = rw left (passed known.page s b (nat_lt s.at b.0) refl low high)
+owes retry moved known _ _ _ (sync_hardened s left) way = rw left (may _ _ (and_from _ _ (eq-eqb s.at s.at refl) left))
+owes retry moved known _ _ _ (sync_faulted s left) way = rw left refl
+owes retry moved known _ _ _ (paged bytes reply step) way = may _ _ (same_bytes known.page)
+owes retry moved known _ _ _ (list_found m p stage b value hand is) way = rw (hand, is) refl
+owes retry moved known _ _ _ (list_missed m p stage b hand is) way = rw (hand, is) (no_deed m (is_none (next_stage (answered p false))) b)
+owes retry moved known _ _ _ (list_dirty m p stage b dirty hand is) way = rw (hand, is) refl
+owes retry moved known _ _ _ (list_moved m why b hand) way = rw hand (list_moves known.page m moved b (settles why) hand way.hardened)
+owes retry moved known _ _ _ (list_spareless m why b hand) way = rw hand refl

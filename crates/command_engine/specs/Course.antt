@@ -1,5 +1,5 @@
 -- Where a started command stands, and with what it begins.
-use Rattle.std.specs.Prelude.{ℕ, ◌-◌, ◌==◌, nat_lt, not, Bool, true, false, if◌then◌else◌, List, [], length, Option, None, unwrap_or}
+use Rattle.std.specs.Prelude.{ℕ, ◌-◌, ◌==◌, nat_lt, not, Bool, true, false, if◌then◌else◌, List, [], Option, None, unwrap_or}
 use Rattle.disk_base.specs.declared.command.DataOut.{DataOut}
 use Rattle.sense_data.specs.Sense.{sense_of}
 use Rattle.mode_pages.specs.declared.settings.Settings.{Settings}
@@ -15,18 +15,15 @@ use Rattle.command_engine.specs.declared.step.Step.{Step}
 use Rattle.command_engine.specs.declared.step.Step.TheVariants.{Trying}
 
 -- where a started command stands: the settings that it began with, whether the values that it gets are its data, the plan that
--- it still owes, what is to be done about the block that comes next, and the last block that was found past the plain read
+-- it still owes, how many descriptors of its list were moved to spare sectors, what is to be done about the block that comes
+-- next, and the last block that was found past the plain read
 pub record Course : Type 0 where
   pub settings : Settings
   pub gives : Bool
   pub plan : Plan
+  pub moved : ℕ
   pub step : Step
   pub recovered : Option Recovery
-
--- the command moves blocks to spare sectors
-abbrev pub moves_blocks : Request → Bool
-moves_blocks (request.ReassignBlocks blocks) = not (length blocks == 0)
-moves_blocks other = false
 
 -- what a command owes that names no block: bytes and then a reply, but where only settings may change. READ DEFECT DATA tells
 -- where another format was asked for than the one that it gives (SBC-3, physical sector format)
@@ -52,6 +49,7 @@ course_of request sent settings = record {
   settings = settings;
   gives = gives_data request;
   plan = first_plan request sent settings;
+  moved = 0;
   step = Trying (begun settings.retry);
   recovered = None;
 }

@@ -7,12 +7,14 @@ use Rattle.sense_data.specs.declared.sense.Sense.{Sense}
 use Rattle.sense_data.specs.declared.reply.Reply.{Reply}
 use Rattle.sense_data.specs.Sense.{sense_of}
 use Rattle.cdb_reader.specs.declared.plan.Plan.{Plan}
-use Rattle.cdb_reader.specs.declared.plan.Plan.TheVariants.{Ending, Unread, Reading, Writing, Syncing}
-use Rattle.cdb_reader.specs.Replies.{good, check_condition, medium_error, unrecovered_read}
+use Rattle.cdb_reader.specs.declared.plan.Plan.TheVariants.{Ending, Unread, Reading, Writing, Syncing, Moving}
+use Rattle.disk_base.specs.declared.address.Lba.{Lba}
+use Rattle.cdb_reader.specs.Replies.{good, check_condition, medium_error, unrecovered_read, no_spare}
 use Rattle.command_engine.specs.declared.step.Recovery.{Recovery}
 use Rattle.command_engine.specs.declared.step.Step.{Step}
-use Rattle.command_engine.specs.declared.step.Step.TheVariants.{Faulted}
+use Rattle.command_engine.specs.declared.step.Step.TheVariants.{Faulted, Spareless}
 use Rattle.command_engine.specs.Course.{Course}
+use Rattle.command_engine.specs.Need.{in_hand}
 
 -- WRITE ERROR at a block
 abbrev pub write_error : ℕ → Reply
@@ -47,13 +49,20 @@ fault_at step b = None
 abbrev pub ended : Bool → Step → ℕ → Reply → Option Reply
 ended is_left step b reply = if is_left then fault_at step b else Some reply
 
-abbrev pub ending_by : Plan → Step → Option Recovery → Option Reply
-ending_by (Ending reply) step recovered = Some reply
-ending_by (Unread b) step recovered = Some (unrecovered_read b)
-ending_by (Reading r) step recovered = ended (nat_lt r.at r.end) step r.at (report_of r.reports recovered)
-ending_by (Writing w) step recovered = ended (nat_lt w.at w.end) step w.at good
-ending_by (Syncing s) step recovered = ended (nat_lt s.at s.end) step s.at good
-ending_by plan step recovered = None
+-- a list of blocks ends with GOOD behind its last one, and for want of a spare at the first one that isn't reassigned
+abbrev pub ended_move : Option Lba → Step → Option Reply
+ended_move None step = Some good
+ended_move (Some b) Spareless = Some (no_spare b.0)
+ended_move (Some b) step = None
+
+abbrev pub ending_by : Plan → ℕ → Step → Option Recovery → Option Reply
+ending_by (Ending reply) moved step recovered = Some reply
+ending_by (Unread b) moved step recovered = Some (unrecovered_read b)
+ending_by (Reading r) moved step recovered = ended (nat_lt r.at r.end) step r.at (report_of r.reports recovered)
+ending_by (Writing w) moved step recovered = ended (nat_lt w.at w.end) step w.at good
+ending_by (Syncing s) moved step recovered = ended (nat_lt s.at s.end) step s.at good
+ending_by (Moving m) moved step recovered = ended_move (in_hand m moved) step
+ending_by plan moved step recovered = None
 
 -- a command ends at a block that it was to harden, which stays dirty as its write faulted; one that a write was to put isn't
 -- changed
@@ -64,4 +73,4 @@ stays_dirty plan step = false
 
 -- the reply that a command ends with; none as long as it needs something
 abbrev pub ending_of : Course → Option Reply
-ending_of c = ending_by c.plan c.step c.recovered
+ending_of c = ending_by c.plan c.moved c.step c.recovered

@@ -15,6 +15,10 @@ pub enum Answer {
     WriteFault,
     /// The first dirty block of those asked for. Where a value is to come from the medium, that its block is dirty.
     NextDirty(Option<Lba>),
+    /// The block is at a spare sector.
+    Moved,
+    /// There is no spare sector for the block, or none that can be used.
+    NoSpare,
     /// The bytes were given.
     Paged,
 }

@@ -4,10 +4,11 @@ ghost use Rattle.cdb_reader.specs.Plan.{unless_empty, reading_from, writing_from
 ghost use Rattle.cdb_reader.specs.Read.{in_range, has_data};
 ghost use Rattle.cdb_reader.specs.Request.{request_of};
 ghost use Rattle.command_engine.specs.Standing.{IsUnderWay};
-ghost use Rattle.command_engine.specs.Course.{first_plan, gives_data, moves_blocks};
-ghost use Rattle.command_engine.specs.Owed.{plan_owed};
+ghost use Rattle.command_engine.specs.Course.{first_plan, gives_data};
+ghost use Rattle.command_engine.specs.Owed.{plan_owed, moved_owed};
 
 use crate::owed::Owed;
+use crate::reassigning::Reassigning;
 use cdb_reader::{Command, Reading, Syncing, Writing};
 use disk_base::DataOut;
 use mode_pages::Settings;
@@ -19,13 +20,17 @@ const PHYSICAL_SECTOR_FORMAT: u8 = 5;
 
 pub fn owed_by(command: Command, sent: DataOut, settings: &Settings) -> Owed
     requires range { IsTrue (in_range (request_of command) (2 ^ 32)) }
-    requires unmoved { moves_blocks (request_of command) ≡ false }
-    ensures { plan_owed result ≡ first_plan (request_of command) sent settings.now }
+    ensures plan { plan_owed result ≡ first_plan (request_of command) sent settings.now }
+    ensures moved { moved_owed result ≡ 0 }
 {
     match command {
-        Command::TestUnitReady | Command::ModeSelect { .. } | Command::ReassignBlocks { .. } => {
-            Owed::Reply(Reply::good())
-        }
+        Command::TestUnitReady | Command::ModeSelect { .. } => Owed::Reply(Reply::good()),
+        Command::ReassignBlocks { blocks } if blocks.is_empty() => Owed::Reply(Reply::good()),
+        Command::ReassignBlocks { blocks } => Owed::Moving(Reassigning {
+            blocks,
+            hardened: 0,
+            moved: 0,
+        }),
         Command::Read { from, length, fua } => reading(from, length, fua, settings),
         Command::Verify { from, length } => reading(from, length, true, settings),
         Command::Write { from, length, fua } => {

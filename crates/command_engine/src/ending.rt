@@ -1,13 +1,13 @@
 //! The replies that a command about blocks may end with.
-ghost use Rattle.std.specs.Prelude.{◌≡◌, ◌^◌, ◌<◌, Some};
-ghost use Rattle.cdb_reader.specs.Replies.{check_condition, unrecovered_read};
+ghost use Rattle.std.specs.Prelude.{◌≡◌, ◌^◌, ◌<◌, Some, IfSome};
+ghost use Rattle.cdb_reader.specs.Replies.{check_condition, unrecovered_read, no_spare};
 ghost use Rattle.command_engine.specs.Standing.{IsNamed};
-ghost use Rattle.command_engine.specs.Ending.{fault_at, report_of, code_of};
+ghost use Rattle.command_engine.specs.Ending.{fault_at, report_of, code_of, ended_move};
 
 use crate::{Recovery, Step};
-use disk_base::{How, Stage};
+use disk_base::{How, Lba, Stage};
 use sense_data::codes::{
-    RECOVERED_WITH_CORRECTION_AND_RETRIES, RECOVERED_WITH_NEGATIVE_OFFSET,
+    NO_DEFECT_SPARE, RECOVERED_WITH_CORRECTION_AND_RETRIES, RECOVERED_WITH_NEGATIVE_OFFSET,
     RECOVERED_WITH_POSITIVE_OFFSET, RECOVERED_WITH_RETRIES, UNRECOVERED_READ_ERROR, WRITE_ERROR,
 };
 use sense_data::{Reply, Sense};
@@ -27,7 +27,25 @@ pub fn fault(step: &Step, b: u64) -> Option<Reply>
 {
     match step {
         Step::Faulted => Some(at_block(WRITE_ERROR, b)),
-        Step::Trying(_) | Step::Hardening => None,
+        Step::Trying(_) | Step::Hardening | Step::Moving(_) | Step::Spareless => None,
+    }
+}
+
+/// The reply to a list of blocks to be moved, of which this one is next: GOOD behind the last one; where there is no spare,
+/// NO DEFECT SPARE LOCATION AVAILABLE with the first one that isn't reassigned as COMMAND-SPECIFIC INFORMATION.
+pub fn reassigned(in_hand: Option<Lba>, step: &Step) -> Option<Reply>
+    requires { IfSome in_hand (λ b. b.0 < 2 ^ 32) }
+    ensures { result ≡ ended_move in_hand step.now }
+{
+    let Some(b) = in_hand else {
+        return Some(Reply::good());
+    };
+    match step {
+        Step::Spareless => Some(Reply::check_condition(Sense {
+            specific: b.0 as u32,
+            ..NO_DEFECT_SPARE
+        })),
+        Step::Trying(_) | Step::Hardening | Step::Faulted | Step::Moving(_) => None,
     }
 }
 

@@ -1,7 +1,6 @@
 //! What a started command needs next, and how it ends. Whoever does the work looks at the need, does it on the cache and
-//! the medium, and answers; nothing here touches either. Served are all commands but those that move blocks to spare
-//! sectors. In specs/ stand what a command needs, which answers fit, which deeds each answer stands for, and how many
-//! answers are still to come at most.
+//! the medium, and answers; nothing here touches either. In specs/ stand what a command needs, which answers fit, which
+//! deeds each answer stands for, and how many answers are still to come at most.
 #![tactic(auto)]
 
 mod answer;
@@ -11,6 +10,7 @@ mod laws;
 mod need;
 mod needs;
 mod owed;
+mod reassigning;
 mod step;
 mod work;
 

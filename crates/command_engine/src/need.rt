@@ -1,4 +1,4 @@
-use disk_base::{Lba, Stage};
+use disk_base::{Lba, MoveWhy, Stage};
 
 /// What a started command needs next.
 #[derive(Clone, Copy, Debug, PartialEq, Eq)]
@@ -14,6 +14,8 @@ pub enum Need {
     Harden { b: Lba },
     /// The first dirty block from one address to below another.
     Pass { from: Lba, to: Lba },
+    /// A block's value goes to a spare sector: the newest one, the one that the last stage found, or that it is lost.
+    Move { b: Lba, why: MoveWhy },
     /// The bytes that the command gives, which aren't blocks.
     Page,
     /// The command ends.

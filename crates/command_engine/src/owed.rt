@@ -1,13 +1,14 @@
-ghost use Rattle.std.specs.Prelude.{◌≡◌, ◌≤◌, ◌^◌, true, false};
+ghost use Rattle.std.specs.Prelude.{◌≡◌, ◌≤◌, ◌^◌, true, false, None};
 ghost use Rattle.cdb_reader.specs.declared.plan.Plan.TheVariants as plan;
 ghost use Rattle.cdb_reader.specs.Plan.{reading_from};
 ghost use Rattle.command_engine.specs.Standing.{IsWithin};
-ghost use Rattle.command_engine.specs.Owed.{plan_owed};
-ghost use Rattle.command_engine.specs.Answers.{owed_after};
+ghost use Rattle.command_engine.specs.Owed.{plan_owed, moved_owed};
+ghost use Rattle.command_engine.specs.Answers.{owed_after, moved_after, is_moving, settled};
 
-use crate::Answer;
+use crate::reassigning::Reassigning;
+use crate::{Answer, Step};
 use cdb_reader::{Reading, Syncing, Writing};
-use disk_base::Value;
+use disk_base::{Lba, MoveWhy, Value};
 use sense_data::Reply;
 
 /// What a command still owes.
@@ -22,13 +23,32 @@ pub enum Owed {
     Reading(Reading),
     Writing(Writing),
     Syncing(Syncing),
+    Moving(Reassigning),
 }
 
 impl Owed {
-    // Goes on with an answer; `lost`: the last stage failed with it.
-    pub(crate) fn advance(&mut self, answer: &Answer, lost: bool)
-        requires { IsWithin (plan_owed self.old) }
-        ensures { plan_owed self.new ≡ owed_after (plan_owed self.old) lost answer.now }
+    // Whether it is a list of blocks that are to be moved.
+    pub(crate) fn is_moving(&self) -> bool
+        ensures { result ≡ is_moving (plan_owed self.now) }
+    {
+        matches!(self, Owed::Moving(_))
+    }
+
+    // The block of a list whose newest value comes to the medium with its move.
+    pub(crate) fn settled(&self, step: &Step) -> Option<Lba>
+        ensures { result ≡ settled (plan_owed self.now) (moved_owed self.now) step.now }
+    {
+        match (self, step) {
+            (Owed::Moving(list), Step::Moving(MoveWhy::Dirty | MoveWhy::GivenUp)) => list.in_hand(),
+            _ => None,
+        }
+    }
+
+    // Goes on with an answer; `lost`: the last stage failed with it; `settled`: the block that a move hardened.
+    pub(crate) fn advance(&mut self, answer: &Answer, lost: bool, settled: Option<Lba>)
+        requires { IsWithin (plan_owed self.old) (moved_owed self.old) }
+        ensures plan { plan_owed self.new ≡ owed_after (plan_owed self.old) lost settled answer.now }
+        ensures moved { moved_owed self.new ≡ moved_after (is_moving (plan_owed self.old)) (moved_owed self.old) answer.now }
     {
         match self {
             Owed::Reply(_) | Owed::Unread(_) => {}
@@ -48,6 +68,11 @@ impl Owed {
                 }
             }
             Owed::Syncing(syncing) => go_on_syncing(syncing, answer),
+            Owed::Moving(list) => {
+                if let Answer::Moved = answer {
+                    list.pass(settled);
+                }
+            }
         }
     }
 }
@@ -55,7 +80,8 @@ impl Owed {
 // A read after an answer.
 fn after_reading(reading: Reading, answer: &Answer, lost: bool) -> Owed
     requires { reading.at ≤ 2 ^ 32 }
-    ensures { plan_owed result ≡ owed_after (plan.Reading reading) lost answer.now }
+    ensures plan { plan_owed result ≡ owed_after (plan.Reading reading) lost None answer.now }
+    ensures moved { moved_owed result ≡ 0 }
 {
     match answer {
         Answer::Got(Value::Data(_)) => Owed::Reading(Reading {
@@ -89,7 +115,7 @@ fn verification_of(writing: &Writing) -> Reading
 // A sync after an answer.
 fn go_on_syncing(syncing: &mut Syncing, answer: &Answer)
     requires { syncing.old.at ≤ 2 ^ 32 }
-    ensures { plan.Syncing syncing.new ≡ owed_after (plan.Syncing syncing.old) false answer.now }
+    ensures { plan.Syncing syncing.new ≡ owed_after (plan.Syncing syncing.old) false None answer.now }
 {
     match answer {
         Answer::Hardened => syncing.at += 1,

@@ -1,8 +1,8 @@
-ghost use Rattle.std.specs.Prelude.{◌≡◌, ℕ, ◌↔◌, ◌+◌, ◌*◌, ◌^◌, ◌≤◌, ◌<◌, IsTrue, IsSome, Some, false, length, slice_range};
+ghost use Rattle.std.specs.Prelude.{◌≡◌, ℕ, ◌↔◌, ◌+◌, ◌*◌, ◌^◌, ◌≤◌, ◌<◌, IsTrue, IsSome, Some, length, slice_range};
 ghost use Rattle.cdb_reader.specs.Plan.{plan_after, block_of};
 ghost use Rattle.cdb_reader.specs.Read.{in_range, has_data, has_length};
 ghost use Rattle.cdb_reader.specs.Request.{request_of};
-ghost use Rattle.command_engine.specs.Course.{course_of, moves_blocks, block_owed, owes_block, next_block, puts_next};
+ghost use Rattle.command_engine.specs.Course.{course_of, block_owed, owes_block, next_block, puts_next};
 ghost use Rattle.command_engine.specs.Need.{IsBelow, end_of, need_of};
 ghost use Rattle.command_engine.specs.Ending.{ending_of};
 ghost use Rattle.command_engine.specs.Standing.{IsCourse};
@@ -10,7 +10,7 @@ ghost use Rattle.command_engine.specs.Answers.{Known, fits, after, deeds_of, wit
 ghost use Rattle.command_engine.specs.Bound.{answers_left};
 
 use crate::beginning::{gives_data, owed_by};
-use crate::ending::{fault, report, unread};
+use crate::ending::{fault, reassigned, report, unread};
 use crate::owed::Owed;
 use crate::{Answer, Need, Recovery, Step, needs};
 use cdb_reader::Command;
@@ -21,11 +21,11 @@ use sense_data::Reply;
 use std::marker::Model;
 
 /// A started command on its way to its end. Contracts see where it stands: the settings that it began with, the plan that
-/// it still owes, what is to be done about the block that comes next, and the last block that was found past the plain
-/// read.
+/// it still owes, how many descriptors of its list were moved, what is to be done about the block that comes next, and the
+/// last block that was found past the plain read.
 ///
-/// Blocks aren't moved to spare sectors yet. So a block that a heavy stage found is given like any other, whatever ARRE is;
-/// a write may fault only where AWRE is 0; and REASSIGN BLOCKS is served where it names no block.
+/// Blocks are moved to spare sectors for REASSIGN BLOCKS alone as yet. So a block that a heavy stage found is given like
+/// any other, whatever ARRE is, and a write may fault only where AWRE is 0.
 #[derive(Debug, Drop)]
 pub struct Work {
     settings: Settings,
@@ -38,13 +38,13 @@ pub struct Work {
 impl Model for Work {
     ghost use Rattle.command_engine.specs.Course.{Course};
     ghost use Rattle.command_engine.specs.Standing.{IsCourse};
-    ghost use Rattle.command_engine.specs.Owed.{plan_owed};
+    ghost use Rattle.command_engine.specs.Owed.{plan_owed, moved_owed};
 
     ghost Value = { Course };
 
-    ghost view = { λ w. record { settings = w.settings; gives = w.gives; plan = plan_owed w.owed; step = w.step; recovered = w.recovered } };
+    ghost view = { λ w. record { settings = w.settings; gives = w.gives; plan = plan_owed w.owed; moved = moved_owed w.owed; step = w.step; recovered = w.recovered } };
 
-    ghost invariant = { λ w. IsCourse (record { settings = w.settings; gives = w.gives; plan = plan_owed w.owed; step = w.step; recovered = w.recovered }) };
+    ghost invariant = { λ w. IsCourse (record { settings = w.settings; gives = w.gives; plan = plan_owed w.owed; moved = moved_owed w.owed; step = w.step; recovered = w.recovered }) };
 }
 
 impl Work {
@@ -56,7 +56,6 @@ impl Work {
         // Sense data name a block by 32 bits.
         requires range { IsTrue (in_range (request_of command) (2 ^ 32)) }
         requires data_length { IsTrue (has_data (request_of command) sent) }
-        requires unmoved { moves_blocks (request_of command) ≡ false }
         ensures value { result ≡ course_of (request_of command) sent settings }
         ensures range { (capacity : ℕ) → IsTrue (in_range (request_of command) capacity) → end_of result.plan ≤ capacity }
     {
@@ -94,7 +93,8 @@ impl Work {
             | Owed::Page(_)
             | Owed::Unread(_)
             | Owed::Writing(_)
-            | Owed::Syncing(_) => false,
+            | Owed::Syncing(_)
+            | Owed::Moving(_) => false,
         }
     }
 
@@ -116,6 +116,7 @@ impl Work {
             Owed::Reading(reading) => needs::of_reading(reading, &self.step),
             Owed::Writing(writing) => needs::of_writing(writing, &self.step),
             Owed::Syncing(syncing) => needs::of_syncing(syncing, &self.step),
+            Owed::Moving(list) => needs::of_moving(list.in_hand(), &self.step),
         }
     }
 
@@ -133,6 +134,7 @@ impl Work {
             Owed::Writing(writing) if writing.at < writing.end => fault(&self.step, writing.at),
             Owed::Syncing(syncing) if syncing.at < syncing.end => fault(&self.step, syncing.at),
             Owed::Writing(_) | Owed::Syncing(_) => Some(Reply::good()),
+            Owed::Moving(list) => reassigned(list.in_hand(), &self.step),
         }
     }
 
@@ -147,8 +149,11 @@ impl Work {
         ensures range { end_of self.new.plan ≤ end_of self.old.plan }
     {
         let recovered = self.recovered_after(&answer);
-        let lost = self.step.advance(&answer, self.settings.retry);
-        self.owed.advance(&answer, lost);
+        let settled = self.owed.settled(&self.step);
+        let lost = self
+            .step
+            .advance(&answer, self.settings.retry, self.owed.is_moving());
+        self.owed.advance(&answer, lost, settled);
         self.recovered = recovered;
     }
 
