@@ -30,7 +30,7 @@ use Rattle.drive_core.specs.Fits.{Fits}
 use Rattle.drive_scene.specs.Able.{held_by_other, work_refused, is_able, nothing_waiting}
 use Rattle.drive_scene.specs.Progress.{SomebodyIsAble}
 use Rattle.drive_core.proofs.AtBlock.{at_block}
-use Rattle.drive_scene.proofs.Walking.{member-number, able-is}
+use Rattle.drive_scene.proofs.Walking.{member-number, able-quiet}
 use Rattle.drive_scene.proofs.Apart.{unheld_sync, unheld_write}
 
 -- a block that a plan holds is the one that it needs
@@ -201,4 +201,4 @@ somebody_is_able s d fits by_age law some =
     let passes : is_able s one.m ≡ true =
     ap (λ (n : ℕ). is_none (work_refused s n one.m)) (member-number s.hist.set one.c one.m one.is_in) ∙ ap is_none one.free in
     let left : 0 < length (filter (is_able s) s.hist.set) = some_left (is_able s) s.hist.set one.c one.m one.is_in passes in
-    omega (arith, left, ap length (able-is s nothing_waiting), length-map (filter (is_able s) s.hist.set) (λ (m : Member). pick.Work m.task.c))
+    omega (arith, left, ap length (able-quiet s nothing_waiting refl), length-map (filter (is_able s) s.hist.set) (λ (m : Member). pick.Work m.task.c))

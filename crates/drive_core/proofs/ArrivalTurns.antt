@@ -28,6 +28,7 @@ use Rattle.drive_scene.specs.declared.event.Event.TheVariants as event
 use Rattle.drive_core.specs.declared.server.Server.{Server}
 use Rattle.drive_scene.specs.declared.answer.Ended as told_end
 use Rattle.drive_scene.specs.Scene.{Scene, capacity, scene_after, beat}
+use Rattle.drive_scene.proofs.DestageTurns.{quiet_back}
 use Rattle.drive_scene.specs.Evidence.{IsEndShown}
 use Rattle.drive_scene.specs.Holds.{held_by_plan, held_block}
 use Rattle.drive_core.specs.Accepting.{accepted_of}
@@ -157,6 +158,7 @@ module _ (s : Scene) (d e : Server) (x : Arriving) (c : ℕ) (fits : Fits s d) (
           apart = apart_none s t c fits.apart (λ q other. held-alike s t q (alike q other)) unheld;
           windows = windows;
           stands = still_stands s d e fits store_is;
+          unstuck = quiet_back s (beat (Arrive x.initiator) (entry_of c x ∷ []) []) fits.unstuck;
         };
         counted = omega arith;
         ended = refl;
@@ -215,6 +217,7 @@ module _ (s : Scene) (d e : Server) (x : Arriving) (c : ℕ) (fits : Fits s d) (
           apart = apart_none s t c fits.apart (λ q other. held-alike s t q (alike q other)) (held_out t c gone);
           windows = windows;
           stands = still_stands s d e fits store_is;
+          unstuck = quiet_back s (beat (Arrive x.initiator) (entry_of c x ∷ Ended c task_set_full ∷ []) []) fits.unstuck;
         };
         counted = omega arith;
         ended = refl;

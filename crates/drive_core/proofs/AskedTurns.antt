@@ -25,6 +25,7 @@ use Rattle.history_replay.specs.Warning.{KnownWait, waiting_state}
 use Rattle.drive_core.specs.declared.accepted.Accepted.{Accepted}
 use Rattle.drive_core.specs.declared.server.Server.{Server}
 use Rattle.drive_scene.specs.Scene.{Scene, capacity, scene_after, windows_with, beat}
+use Rattle.drive_scene.proofs.DestageTurns.{quiet_back}
 use Rattle.drive_scene.specs.Evidence.{lba}
 use Rattle.drive_scene.specs.Holds.{held_block, IsApart}
 use Rattle.drive_core.specs.Accepting.{accepted_of}
@@ -198,6 +199,7 @@ module _ (s : Scene) (d e : Server) (i : ℕ) (what : Function) (gone : List ℕ
     apart = apart;
     windows = windows;
     stands = subst (λ bs. IsStood s.map (s.ops ++ []) bs) (sym blocks_are) (still_stands s d e fits asked.store);
+    unstuck = quiet_back s (beat (Arrive i) entries []) fits.unstuck;
   }
 
   made : Moves (Arrive i) s d e entries None

@@ -2,7 +2,7 @@
 use Rattle.std.proofs.Common.{◌≡◌, ℕ, ◌<◌, Bool, true, false, cond, List, [], ◌∷◌, ◌++◌, length, Option, Some, None, refl, sym, ap, ◌∙◌, subst, arith}
 use Rattle.std.specs.Prelude.{MatchOption, ◌&&◌, ◌||◌, nat_le}
 use Rattle.std.specs.List.{list_any}
-use Rattle.std.specs.Option.{option_map_or, option_or}
+use Rattle.std.specs.Option.{option_map_or, option_or, is_some}
 use Rattle.std.proofs.lemmas.Bool.{leb-false}
 use Rattle.disk_base.specs.Along.{Along}
 use Rattle.platter_model.specs.TrueLog.{is_off}
@@ -26,6 +26,7 @@ use Rattle.drive_scene.specs.declared.made.Made.{Made}
 use Rattle.drive_core.specs.declared.server.Server.{Server}
 use Rattle.drive_core.specs.declared.turning.MadeTurn.{MadeTurn}
 use Rattle.drive_scene.specs.Scene.{Scene, Beat, capacity, beat}
+use Rattle.drive_scene.specs.Holds.{destaged}
 use Rattle.drive_scene.specs.Evidence.{Shows}
 use Rattle.drive_scene.specs.Run.{Run, behind_factory, run_of, scene_of}
 use Rattle.drive_scene.specs.View.{view}
@@ -61,6 +62,7 @@ fits-same s old new same fits = record {
   apart = fits.apart;
   windows = fits.windows;
   stands = fits.stands;
+  unstuck = fits.unstuck;
 }
 
 pub run-same : (made : Made) (old new : Server) (turns given : List Turn) (coming : ℕ) → given ≡ turns → IsSameServer old new
@@ -89,13 +91,17 @@ unasked : {X : Type 0} (f : X → Option TurnAnswer) (o : Option X) (n : ℕ) �
 unasked f None n is = absurd (cc)
 unasked f (Some x) n is = is
 
+idle_at_none : (t : Bool) (n : ℕ) → cond t None (Some (answer.Idle n)) ≡ None → cond t None (Some (answer.Idle 0)) ≡ None
+idle_at_none true n is = refl
+idle_at_none false n is = absurd (cc)
+
 free_at_none : (s : Scene) (n : ℕ) (e : Event) → refusal_on s n e ≡ None → refusal_on s 0 e ≡ None
 free_at_none s n (event.Arrive a) is = is
 free_at_none s n (event.Work c) is = unasked (work_refused s c) (member_of s.hist.set c) n is
 free_at_none s n (event.Job j) is = is
 free_at_none s n (event.Any x) is = unasked (λ (p : Pick). None) (picked s nothing_waiting x) n is
 free_at_none s n event.Scan is = is
-free_at_none s n event.Destage is = is
+free_at_none s n event.Destage is = idle_at_none (is_some (destaged s)) n is
 free_at_none s n (event.World w) is = is
 
 no_reason : (t u : Bool) (a b : TurnAnswer) (o : Option TurnAnswer) → option_or (option_or (cond t (Some a) None) (cond u (Some b) None)) o ≡ None

@@ -18,7 +18,8 @@ use Rattle.block_machine.specs.State.{State, owed_by}
 use Rattle.block_machine.specs.Steps.{entry_after}
 use Rattle.drive_core.specs.declared.accepted.Accepted.{Accepted}
 use Rattle.drive_core.specs.declared.server.Server.{Server}
-use Rattle.drive_scene.specs.Scene.{Scene, capacity}
+use Rattle.drive_scene.specs.Scene.{Scene, capacity, beat}
+use Rattle.drive_scene.proofs.DestageTurns.{quiet_back}
 use Rattle.drive_scene.specs.Holds.{held_by_plan, held_block}
 use Rattle.drive_core.specs.Accepting.{accepted_of, Replaces}
 use Rattle.drive_scene.specs.View.{view}
@@ -90,6 +91,7 @@ fits_on s c ops entries h plan d e a half fits set_is arrived_is known_is replac
           (λ q other. held-alike s (after_half s c ops entries) q (alike-half s c ops entries h plan half q other)) (λ b holds. alone b (sym held ∙ holds));
       windows = windows_then s c ops entries h plan (room_of s c d fits) half entries;
       stands = subst (λ (x : State). IsStood s.map (s.ops ++ ops) x.blocks) (sym half.reached) half.stands;
+      unstuck = quiet_back s (beat (Work c) entries ops) fits.unstuck;
     }
 
 -- a drive without a command that ended
@@ -131,4 +133,5 @@ fits_end s c ops entries h plan reply d e half fits left has_ops cached =
           (λ q other. held-alike s (after_end s c ops entries reply) q (alike-end s c ops entries h plan reply half q other)) (held_out t c gone);
       windows = windows_then s c ops entries h plan (room_of s c d fits) half (entries ++ Ended c reply ∷ []);
       stands = subst (λ (x : State). IsStood s.map (s.ops ++ ops) x.blocks) (sym reached) half.stands;
+      unstuck = quiet_back s (beat (Work c) (entries ++ Ended c reply ∷ []) ops) fits.unstuck;
     }

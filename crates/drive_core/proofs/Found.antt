@@ -70,7 +70,7 @@ use Rattle.drive_core.proofs.Windows.{numbered}
 abbrev pub OwnPlaces : DefectMap → Type 0
 OwnPlaces m = (b q : Lba) → b.0 < capacity_of m.size → q.0 < capacity_of m.size → place_of m b ≡ place_of m q → b ≡ q
 
-module _ (s : Scene) (c : ℕ) (m : Member) (a : Accepted) (settings : Settings) (gives : Bool) (r : reading.Reading) (p : Progress) (rec : Option Recovery) (stage : Stage) where
+module _ (s : Scene) (c : ℕ) (m : Member) (a : Accepted) (settings : Settings) (gives : Bool) (moved : ℕ) (r : reading.Reading) (p : Progress) (rec : Option Recovery) (stage : Stage) where
   -- what is sought for the read
   abbrev pub sought : Sought
   sought = record { b = lba r.at; medium = r.through; stage = stage; settings = settings; gives = gives }
@@ -79,7 +79,7 @@ module _ (s : Scene) (c : ℕ) (m : Member) (a : Accepted) (settings : Settings)
   pub record IsMade (d e : Server) (answer : Answer) (entries : List Entry) (reply : Option Reply) (told : Option told_end.Ended) : Type 0 where
     pub fits : Fits s d
     pub is_in : member_of s.hist.set c ≡ Some m
-    pub working : IsWorking (view s c) m (course s c m settings gives r p rec stage)
+    pub working : IsWorking (view s c) m (course s c m settings gives moved r p rec stage)
     pub next_is : next_stage p ≡ Some stage
     pub left : r.at < r.end
     pub free : holder_besides s (Work c) r.at ≡ None
@@ -88,12 +88,12 @@ module _ (s : Scene) (c : ℕ) (m : Member) (a : Accepted) (settings : Settings)
     pub once : IsCache d.store.cache
     pub keeps : KeepsOthers
     pub laws : ReadLaws
-    pub course_is : IsCourse (after (course s c m settings gives r p rec stage) answer)
-    pub reply_is : reply ≡ ending_of (after (course s c m settings gives r p rec stage) answer)
-    pub goes : reply ≡ None → Goes d e c (record a { work = Some (after (course s c m settings gives r p rec stage) answer) }) (got_entries c (lba r.at) (value_got answer false)) entries told
+    pub course_is : IsCourse (after (course s c m settings gives moved r p rec stage) answer)
+    pub reply_is : reply ≡ ending_of (after (course s c m settings gives moved r p rec stage) answer)
+    pub goes : reply ≡ None → Goes d e c (record a { work = Some (after (course s c m settings gives moved r p rec stage) answer) }) (got_entries c (lba r.at) (value_got answer false)) entries told
     pub stops : (x : Reply) → reply ≡ Some x → Stops d e c x (got_entries c (lba r.at) (value_got answer true)) entries told
 
-  below_capacity : (v : IsWorking (view s c) m (course s c m settings gives r p rec stage)) → r.at < r.end → r.at < capacity s
+  below_capacity : (v : IsWorking (view s c) m (course s c m settings gives moved r p rec stage)) → r.at < r.end → r.at < capacity s
   below_capacity working left = omega (arith, working.range)
 
   -- a read without FUA never has to harden, and none has to where the block isn't dirty
@@ -119,7 +119,7 @@ module _ (s : Scene) (c : ℕ) (m : Member) (a : Accepted) (settings : Settings)
       let below : r.at < capacity s = below_capacity made.working made.left in
       let unfound : last_found (s.windows c ++ []) ≡ None = ap last_found (append-nil (s.windows c)) ∙ trying.unfound in
       let present : IsPresentMap s.map (s.ops ++ []) = subst (λ (xs : List Op). IsPresentMap s.map xs) (sym (append-nil s.ops)) made.fits.store.present in
-      let turn : IsReadTurn s d e c m (course s c m settings gives r p rec stage) (lba r.at) [] = record {
+      let turn : IsReadTurn s d e c m (course s c m settings gives moved r p rec stage) (lba r.at) [] = record {
         fits = made.fits;
         is_in = made.is_in;
         working = made.working;
@@ -139,7 +139,7 @@ module _ (s : Scene) (c : ℕ) (m : Member) (a : Accepted) (settings : Settings)
       (λ (dirty : newest (lba r.at) d.store.cache ≡ Some bytes).
       let is = made.fits.cached.dirty (lba r.at) ∙ ap (option_map Data) dirty in
       let is_so : is_dirty (s.hist.blocks r.at) ≡ true = dirty_by_newest (s.hist.blocks r.at) (Data bytes) is in
-      got_data s c m settings gives r p rec stage d e a bytes [] entries reply told turn made.next_is made.left
+      got_data s c m settings gives moved r p rec stage d e a bytes [] entries reply told turn made.next_is made.left
       (unforced_clean unforced (is_dirty (s.hist.blocks r.at)))
       (λ none. may_get-newest (s.hist.blocks r.at) bytes is)
       (λ none undirty. absurd (true≢false (sym is_so ∙ undirty)))
@@ -151,7 +151,7 @@ module _ (s : Scene) (c : ℕ) (m : Member) (a : Accepted) (settings : Settings)
       let uses : may_use_cache (s.settings c) (Some (Reading r)) ≡ true =
       ap (λ (x : Settings). not r.through && not x.rcd) made.working.settings
       ∙ ((λ i. not (unforced i) && not settings.rcd) ∙ ap not clean.1) in
-      got_data s c m settings gives r p rec stage d e a bytes [] entries reply told turn made.next_is made.left
+      got_data s c m settings gives moved r p rec stage d e a bytes [] entries reply told turn made.next_is made.left
       (unforced_clean unforced (is_dirty (s.hist.blocks r.at)))
       (λ none. let before : strays s.ops ≡ 0 = no_strays-before s.ops [] none in
       may_get-allowed (s.hist.blocks r.at) (Data bytes) is.undirty
@@ -170,7 +170,7 @@ module _ (s : Scene) (c : ℕ) (m : Member) (a : Accepted) (settings : Settings)
       → (e.store.cache ≡ d.store.cache) ⊎ ((bytes : List ℕ) × (payload : Payload) × (found ≡ Some payload) × (value_for (lba r.at) payload ≡ Data bytes)
       × (strays e.store.platter.ops ≡ strays d.store.platter.ops → Data bytes ≡ stored d.store.map d.store.platter.ops (lba r.at))
       × (e.store.cache ≡ with_clean (lba r.at) bytes d.store.cache))
-      → IsReadTurn s d e c m (course s c m settings gives r p rec stage) (lba r.at) (try_of (length d.store.platter.ops) (place_of s.map (lba r.at)) stage found)
+      → IsReadTurn s d e c m (course s c m settings gives moved r p rec stage) (lba r.at) (try_of (length d.store.platter.ops) (place_of s.map (lba r.at)) stage found)
   turn_of d e answer entries reply told found made undirty map_is ready_is platter_is keeps cache =
       let b : Lba = lba r.at in
       let before : ℕ = length d.store.platter.ops in
@@ -246,7 +246,7 @@ module _ (s : Scene) (c : ℕ) (m : Member) (a : Accepted) (settings : Settings)
   stage_data : (d e : Server) (bytes : List ℕ) (payload : Payload) (entries : List Entry) (reply : Option Reply) (told : Option told_end.Ended)
       → IsMade d e (Got (Data bytes)) entries reply told → newest (lba r.at) d.store.cache ≡ None → value_for (lba r.at) payload ≡ Data bytes
       → (strays e.store.platter.ops ≡ strays d.store.platter.ops → Data bytes ≡ stored d.store.map d.store.platter.ops (lba r.at))
-      → IsReadTurn s d e c m (course s c m settings gives r p rec stage) (lba r.at) (try_of (length d.store.platter.ops) (place_of s.map (lba r.at)) stage (Some payload))
+      → IsReadTurn s d e c m (course s c m settings gives moved r p rec stage) (lba r.at) (try_of (length d.store.platter.ops) (place_of s.map (lba r.at)) stage (Some payload))
       → Moves (Work c) s d e entries told
   stage_data d e bytes payload entries reply told made undirty value stored_is turn =
       let before : ℕ = length d.store.platter.ops in
@@ -259,7 +259,7 @@ module _ (s : Scene) (c : ℕ) (m : Member) (a : Accepted) (settings : Settings)
       let shown : FoundByStages (s.windows c ++ ops) at (s.settings c).retry (lba r.at) (Data bytes) =
       subst (λ (n : ℕ). FoundByStages (s.windows c ++ ops) at n (lba r.at) (Data bytes)) trying.retry
       (found-next (s.windows c) before at p.retry p.failed stage payload (lba r.at) (Data bytes) (next_stage-at p stage made.next_is).1 trying.failed value) in
-      got_data s c m settings gives r p rec stage d e a bytes ops entries reply told turn made.next_is made.left
+      got_data s c m settings gives moved r p rec stage d e a bytes ops entries reply told turn made.next_is made.left
       (clean_there r.through (is_dirty (s.hist.blocks r.at)) clean)
       (λ none. may_get-allowed (s.hist.blocks r.at) (Data bytes) clean
       (subst (λ (v : Value). list_any (same_value v) (allowed (s.hist.blocks r.at)) ≡ true) (sym (stored_so none))
@@ -270,7 +270,7 @@ module _ (s : Scene) (c : ℕ) (m : Member) (a : Accepted) (settings : Settings)
 
   stage_lost : (d e : Server) (payload : Payload) (entries : List Entry) (reply : Option Reply) (told : Option told_end.Ended)
       → IsMade d e (Got Lost) entries reply told → newest (lba r.at) d.store.cache ≡ None → value_for (lba r.at) payload ≡ Lost
-      → IsReadTurn s d e c m (course s c m settings gives r p rec stage) (lba r.at) (try_of (length d.store.platter.ops) (place_of s.map (lba r.at)) stage (Some payload))
+      → IsReadTurn s d e c m (course s c m settings gives moved r p rec stage) (lba r.at) (try_of (length d.store.platter.ops) (place_of s.map (lba r.at)) stage (Some payload))
       → Moves (Work c) s d e entries told
   stage_lost d e payload entries reply told made undirty value turn =
       let before : ℕ = length d.store.platter.ops in
@@ -281,13 +281,13 @@ module _ (s : Scene) (c : ℕ) (m : Member) (a : Accepted) (settings : Settings)
       let shown : FoundNowhere (s.windows c ++ ops) at (s.settings c).retry (lba r.at) =
       inr (subst (λ (n : ℕ). FoundByStages (s.windows c ++ ops) at n (lba r.at) Lost) trying.retry
       (found-next (s.windows c) before at p.retry p.failed stage payload (lba r.at) Lost (next_stage-at p stage made.next_is).1 trying.failed value)) in
-      got_lost s c m settings gives r p rec stage d e (Got Lost) ops entries reply told turn made.left
+      got_lost s c m settings gives moved r p rec stage d e (Got Lost) ops entries reply told turn made.left
       (clean_there r.through (is_dirty (s.hist.blocks r.at)) clean)
       (λ none. may_get-lost (s.hist.blocks r.at) clean) ((λ dirtied. absurd (true≢false (sym dirtied ∙ clean))), (λ undirtied. shown)) made.course_is refl made.reply_is made.stops
 
   stage_nothing : (d e : Server) (entries : List Entry) (reply : Option Reply) (told : Option told_end.Ended)
       → IsMade d e Missed entries reply told → newest (lba r.at) d.store.cache ≡ None
-      → IsReadTurn s d e c m (course s c m settings gives r p rec stage) (lba r.at) (try_of (length d.store.platter.ops) (place_of s.map (lba r.at)) stage None)
+      → IsReadTurn s d e c m (course s c m settings gives moved r p rec stage) (lba r.at) (try_of (length d.store.platter.ops) (place_of s.map (lba r.at)) stage None)
       → Moves (Work c) s d e entries told
   stage_nothing d e entries reply told made undirty turn =
       let before : ℕ = length d.store.platter.ops in
@@ -302,12 +302,12 @@ module _ (s : Scene) (c : ℕ) (m : Member) (a : Accepted) (settings : Settings)
       failed-all (s.windows c) before at p.retry p.failed stage (lba r.at) place.1 (none_left p place.0 last) trying.failed in
       let shown : FoundNowhere (s.windows c ++ ops) at (s.settings c).retry (lba r.at) =
       subst (λ (n : ℕ). FoundNowhere (s.windows c ++ ops) at n (lba r.at)) trying.retry all in
-      let lost : (after (course s c m settings gives r p rec stage) Missed).plan ≡ Unread r.at = ap (λ (b : Bool). cond b (Unread r.at) (Reading r)) last in
-      got_lost s c m settings gives r p rec stage d e Missed ops entries reply told turn made.left
+      let lost : (after (course s c m settings gives moved r p rec stage) Missed).plan ≡ Unread r.at = ap (λ (b : Bool). cond b (Unread r.at) (Reading r)) last in
+      got_lost s c m settings gives moved r p rec stage d e Missed ops entries reply told turn made.left
       (clean_there r.through (is_dirty (s.hist.blocks r.at)) clean)
       (λ none. may_get-lost (s.hist.blocks r.at) clean) ((λ dirtied. absurd (true≢false (sym dirtied ∙ clean))), (λ undirtied. shown)) made.course_is lost made.reply_is made.stops)
       (λ (one_left : is_none (next_stage (answered p false)) ≡ false).
-      missed s c m settings gives r p rec stage d e a before entries reply told turn made.next_is made.left clean one_left made.reply_is made.goes)
+      missed s c m settings gives moved r p rec stage d e a before entries reply told turn made.next_is made.left clean one_left made.reply_is made.goes)
       (cases_Bool (is_none (next_stage (answered p false))))
 
   -- what a try is known by

@@ -65,7 +65,7 @@ fresh_at made d is leaves fresh set commands arrived known =
           ready = refl;
           sound = zeros.sound;
         };
-        cached = record { dirty = λ b. refl; ages = refl; known = λ b bytes held. absurd (cc); clean = λ b bytes held. absurd (cc) };
+        cached = record { dirty = λ b. refl; ages = refl; below = λ b bytes held. absurd (cc); known = λ b bytes held. absurd (cc); clean = λ b bytes held. absurd (cc) };
         known = record {
           capacity = known.capacity;
           settings = known.settings;
@@ -81,6 +81,7 @@ fresh_at made d is leaves fresh set commands arrived known =
         apart = λ c q b of_c of_q. absurd (let never : None ≡ Some b = of_c in cc);
         windows = λ c. omega arith;
         stands = zeros.stands;
+        unstuck = λ n. refl;
       };
       numbered = omega (arith, arrived);
     }

@@ -2,18 +2,13 @@
 use Rattle.std.proofs.Common.{◌≡◌, ℕ, ◌<◌, ◌^◌, true, false, List, [], ◌∷◌, ◌++◌, Option, Some, None, refl, sym, ap, ◌∙◌, subst, append-nil}
 use Rattle.std.proofs.lemmas.Bool.{true≢false}
 use Rattle.std.proofs.lemmas.List.Elements.{All-head}
-use Rattle.std.proofs.lemmas.List.Sums.{fold-append}
 use Rattle.disk_base.specs.declared.address.Lba.{Lba}
-use Rattle.disk_base.specs.declared.address.Psn.{Psn}
 use Rattle.disk_base.specs.declared.block.Value.TheVariants.{Data}
 use Rattle.disk_base.specs.declared.payload.Payload.{Payload}
 use Rattle.platter_model.specs.declared.op.Op.{Op}
 use Rattle.platter_model.specs.declared.op.Op.TheVariants.{Wrote}
-use Rattle.platter_model.specs.Sector.{is_faulty, faulty_after}
-use Rattle.platter_model.specs.TrueLog.{is_off, is_unpowered, supply_after, powered, strays}
 use Rattle.geometry_map.specs.DefectMap.{DefectMap}
 use Rattle.sector_store.specs.State.{Contained, placed}
-use Rattle.sector_store.specs.Stored.{stored}
 use Rattle.sense_data.specs.declared.reply.Reply.{Reply}
 use Rattle.task_set.specs.Members.{member_of}
 use Rattle.write_cache.specs.Contents.{newest}
@@ -39,21 +34,18 @@ use Rattle.drive_core.specs.Commands.{IsCommand}
 use Rattle.drive_scene.specs.Ending.{ended_in, ended_of_member}
 use Rattle.drive_scene.specs.Evidence.{IsEndShown}
 use Rattle.drive_scene.specs.Present.{IsPresentMap}
-use Rattle.drive_core.specs.Fits.{HasOps, IsCached, Fits}
+use Rattle.drive_core.specs.Fits.{Fits}
 use Rattle.sector_store.specs.Caching.{Hardens}
 use Rattle.drive_core.specs.Moves.{Moves}
-use Rattle.drive_scene.proofs.Tables.{put_at-own, put_at-other, within_map}
 use Rattle.drive_scene.specs.Half.{Half}
 use Rattle.drive_scene.proofs.Apart.{HoldsAlone}
 use Rattle.drive_scene.proofs.Elsewhere.{after_half, after_end, reached-end}
 use Rattle.drive_core.proofs.Fitting.{fits_on, fits_end}
-use Rattle.drive_core.proofs.Closing.{Goes, Stops, has_ops, moves_on, moves_end}
+use Rattle.drive_core.proofs.Closing.{Goes, Stops, moves_on, moves_end}
 use Rattle.drive_scene.specs.Kinds.{IsHarden, hardened_blocks}
 use Rattle.drive_scene.specs.Laws.{HalvesAreGood, HardensAreHalves, PassesToHardenAreHalves}
-use Rattle.drive_scene.proofs.HardenTurns.{hardened-newest, dirty-newest, unstrayed}
-use Rattle.drive_core.proofs.HardenParts.{IsAfterHarden, cached_hardened}
+use Rattle.drive_core.proofs.WrittenOut.{IsWrittenOut, op_of, added_written, present_written, has_written, cached_written}
 use Rattle.drive_core.proofs.Windows.{room_of}
-use Rattle.drive_core.proofs.Written.{uncounted}
 use Rattle.drive_scene.specs.GoodTurn.{AreTriesShown, WritesBlockData}
 use Rattle.std.specs.Prelude.{All}
 
@@ -62,13 +54,6 @@ tries_wrote : (s : Scene) (c : ℕ) (es : List Entry) (payload : Payload) → Al
     → AreTriesShown s (Work c) es (Wrote payload ∷ [])
 tries_wrote s c [] payload all = absurd (true≢false (sym (All-head (WritesBlockData s.map []) (Wrote payload) [] all).1))
 tries_wrote s c (e ∷ es) payload all = refl
-
--- a write leaves the power and the write faults as they were
-pub off-written : (ops : List Op) (payload : Payload) → is_off (ops ++ Wrote payload ∷ []) ≡ is_off ops
-off-written ops payload = ap is_unpowered (fold-append supply_after powered ops (Wrote payload ∷ []))
-
-pub faults-written : (ops : List Op) (payload : Payload) (p : Psn) → is_faulty p (ops ++ Wrote payload ∷ []) ≡ is_faulty p ops
-faults-written ops payload p = fold-append (faulty_after p) false ops (Wrote payload ∷ [])
 
 -- the laws by which a turn that hardens a block is a good one
 pub record HardenLaws : Type 0 where
@@ -85,55 +70,22 @@ pub record IsHardenTurn (s : Scene) (d e : Server) (c : ℕ) (b : Lba) (bytes : 
   pub present : IsPresentMap e.store.map e.store.platter.ops
   pub laws : HardenLaws
 
--- the operation of the turn
-abbrev pub op_of : Scene → Lba → List ℕ → Op
-op_of s b bytes = Wrote (placed s.map b bytes)
+-- a turn that hardens a block writes it out
+out : (s : Scene) (d e : Server) (c : ℕ) (b : Lba) (bytes : List ℕ) → IsHardenTurn s d e c b bytes → IsWrittenOut s d e b bytes
+out s d e c b bytes turn = record {
+  fits = turn.fits;
+  below = turn.is.below;
+  data_is = turn.is.newest;
+  stores = turn.is.stores;
+  keeps = turn.is.keeps;
+  held = turn.held;
+  hardens = turn.hardens;
+  present = turn.present;
+}
 
 module _ (s : Scene) (d e : Server) (c : ℕ) (b : Lba) (bytes : List ℕ) (turn : IsHardenTurn s d e c b bytes) where
-  same_map : e.store.map ≡ d.store.map
-  same_map = ap (λ (x : Contained). x.map) turn.hardens.after
-
-  added : e.store.platter.ops ≡ d.store.platter.ops ++ op_of s b bytes ∷ []
-  added = ap (λ (x : Contained). x.platter.ops) turn.hardens.after
-      ∙ ap (λ (m : DefectMap). d.store.platter.ops ++ Wrote (placed m b bytes) ∷ []) turn.fits.store.map
-
-  -- the map is there after it
-  present : IsPresentMap s.map (s.ops ++ op_of s b bytes ∷ [])
-  present =
-      let at_map : IsPresentMap s.map e.store.platter.ops =
-      subst (λ (m : DefectMap). IsPresentMap m e.store.platter.ops) (same_map ∙ turn.fits.store.map) turn.present in
-      subst (λ (ops : List Op). IsPresentMap s.map ops) (added ∙ ap (λ (ops : List Op). ops ++ op_of s b bytes ∷ []) turn.fits.store.ops) at_map
-
-  -- the store of a scene with its operation
-  has : (t : Scene) → t.map ≡ s.map → t.ops ≡ s.ops ++ op_of s b bytes ∷ [] → HasOps t e.store
-  has t map_is ops_is =
-      has_ops s t d.store e.store (op_of s b bytes ∷ []) turn.fits.store map_is ops_is same_map added
-      (ap (λ (x : Contained). x.platter.armed) turn.hardens.after ∙ uncounted d.store.platter.armed turn.fits.store.unarmed)
-      (ap (λ (x : Contained). x.ready) turn.hardens.after) (off-written s.ops (placed s.map b bytes)) (faults-written s.ops (placed s.map b bytes)) turn.present
-
-  after_scene : (t : Scene) (more : List Entry) → t.size ≡ s.size → t.map ≡ s.map → t.ops ≡ s.ops ++ op_of s b bytes ∷ [] → t.since ≡ s.since ++ op_of s b bytes ∷ []
-      → t.entries ≡ s.entries ++ more → t.hist.blocks ≡ hardened_blocks s b → t.hist.dirty ≡ without_address b.0 s.hist.dirty → IsAfterHarden s t b bytes
-  after_scene t more size_is map_is ops_is since_is entries_are blocks_are order = record {
-    size = size_is;
-    map = map_is;
-    own = ap (λ (f : Blocks). f b.0) blocks_are ∙ (put_at-own b.0 _ s.hist.blocks ∙ hardened-newest (s.hist.blocks b.0) (Data bytes) turn.is.newest);
-    others = λ q other. ap (λ (f : Blocks). f q) blocks_are ∙ put_at-other b.0 q _ s.hist.blocks other;
-    order = order;
-    more_entries = more;
-    entries = entries_are;
-    more_ops = op_of s b bytes ∷ [];
-    since = since_is;
-    unstrayed = λ none. unstrayed s.ops (op_of s b bytes) (ap strays (sym ops_is) ∙ none);
-    stores = (λ i. stored (map_is i) (ops_is i) b) ∙ turn.is.stores s.map present.may_be;
-    keeps = λ q below other. (λ i. stored (map_is i) (ops_is i) q) ∙ turn.is.keeps s.map present.may_be q (within_map s q turn.is.size below) other;
-  }
-
-  -- and its cache
-  cached : (t : Scene) (more : List Entry) → t.size ≡ s.size → t.map ≡ s.map → t.ops ≡ s.ops ++ op_of s b bytes ∷ [] → t.since ≡ s.since ++ op_of s b bytes ∷ []
-      → t.entries ≡ s.entries ++ more → t.hist.blocks ≡ hardened_blocks s b → t.hist.dirty ≡ without_address b.0 s.hist.dirty → IsCached t e.store.cache
-  cached t more size_is map_is ops_is since_is entries_are blocks_are order =
-      cached_hardened s t b bytes d.store.cache e.store.cache (after_scene t more size_is map_is ops_is since_is entries_are blocks_are order) turn.is.below
-      (dirty-newest (s.hist.blocks b.0) (Data bytes) turn.is.newest) turn.held turn.hardens.cache turn.fits.cached
+  abbrev wrote : IsWrittenOut s d e b bytes
+  wrote = out s d e c b bytes turn
 
   module _ (half entries : List Entry) (h : State) (plan : Plan) (told : Option told_end.Ended) (is : Half s c (op_of s b bytes ∷ []) half h plan)
       (blocks_are : h.blocks ≡ hardened_blocks s b) (order : h.dirty ≡ without_address b.0 s.hist.dirty) where
@@ -144,12 +96,12 @@ module _ (s : Scene) (d e : Server) (c : ℕ) (b : Lba) (bytes : List ℕ) (turn
     harden_on a settled none own alone goes =
         let t : Scene = after_half s c (op_of s b bytes ∷ []) half in
         moves_on s c (op_of s b bytes ∷ []) half entries h plan d e a told is
-        (turn.laws.halves.on s c (op_of s b bytes ∷ []) half h plan (room_of s c d turn.fits) present is
+        (turn.laws.halves.on s c (op_of s b bytes ∷ []) half h plan (room_of s c d turn.fits) (present_written s d e b bytes wrote) is
         (tries_wrote s c half (placed s.map b bytes) (subst (λ (es : List Entry). All (WritesBlockData s.map es) (op_of s b bytes ∷ [])) (append-nil half) (is.written [])))
         settled refl)
-        (fits_on s c (op_of s b bytes ∷ []) half h plan d e a is turn.fits goes.set goes.arrived goes.known goes.replaces (has t refl refl)
-        (cached t half refl refl refl refl refl (ap (λ (x : State). x.blocks) is.reached ∙ blocks_are) (ap (λ (x : State). x.dirty) is.reached ∙ order)) own alone)
-        goes added none
+        (fits_on s c (op_of s b bytes ∷ []) half h plan d e a is turn.fits goes.set goes.arrived goes.known goes.replaces (has_written s d e b bytes wrote t refl refl)
+        (cached_written s d e b bytes wrote t half refl refl refl refl refl (ap (λ (x : State). x.blocks) is.reached ∙ blocks_are) (ap (λ (x : State). x.dirty) is.reached ∙ order)) own alone)
+        goes (added_written s d e b bytes wrote) none
 
     -- or ends
     pub harden_ends : (reply : Reply) → next plan (deed.Ended reply (names_dirty h reply)) ≡ Some Over → ends_as_told (Some plan) (h.duties c) reply ≡ true
@@ -160,8 +112,8 @@ module _ (s : Scene) (d e : Server) (c : ℕ) (b : Lba) (bytes : List ℕ) (turn
         let t : Scene = after_end s c (op_of s b bytes ∷ []) half reply in
         let reached : t.hist ≡ entry_after (capacity s) (Work c) h (Ended c reply) = reached-end s c (op_of s b bytes ∷ []) half h plan reply is in
         moves_end s c (op_of s b bytes ∷ []) half entries h plan d e reply told is
-        (turn.laws.halves.over s c (op_of s b bytes ∷ []) half h plan Over reply (room_of s c d turn.fits) present is
+        (turn.laws.halves.over s c (op_of s b bytes ∷ []) half h plan Over reply (room_of s c d turn.fits) (present_written s d e b bytes wrote) is
         (tries_wrote s c (half ++ Ended c reply ∷ []) (placed s.map b bytes) (is.written (Ended c reply ∷ []))) may told_so shown)
-        (fits_end s c (op_of s b bytes ∷ []) half h plan reply d e is turn.fits stops.left (has t refl refl)
-        (cached t (half ++ Ended c reply ∷ []) refl refl refl refl refl (ap (λ (x : State). x.blocks) reached ∙ blocks_are) (ap (λ (x : State). x.dirty) reached ∙ order)))
-        stops turn.fits added ended
+        (fits_end s c (op_of s b bytes ∷ []) half h plan reply d e is turn.fits stops.left (has_written s d e b bytes wrote t refl refl)
+        (cached_written s d e b bytes wrote t (half ++ Ended c reply ∷ []) refl refl refl refl refl (ap (λ (x : State). x.blocks) reached ∙ blocks_are) (ap (λ (x : State). x.dirty) reached ∙ order)))
+        stops turn.fits (added_written s d e b bytes wrote) ended

@@ -48,7 +48,7 @@ known_then s t b q bytes v after known =
     (known-more s.entries after.more_entries s.since after.more_ops q v known))
 
 -- a test of addresses, either way round
-same_test : (b k : Lba) (t : Bool) → is_at b k ≡ t → eqb k.0 b.0 ≡ t
+pub same_test : (b k : Lba) (t : Bool) → is_at b k ≡ t → eqb k.0 b.0 ≡ t
 same_test b k true is = eq-eqb k.0 b.0 (sym (eqb-true b.0 k.0 is))
 same_test b k false is = ne_eqb k.0 b.0 (λ same. true_not_false (eq-eqb b.0 k.0 (sym same)) is)
 
@@ -121,6 +121,14 @@ cached_hardened s t b bytes old new after below dirty is settled cached =
           (cases_eq q.0 b.0);
       ages = ap (λ es. map (λ (k : Lba). k.0) (keys_of es)) settled.ages
           ∙ (keys_without b old.dirty (ap (λ es. lookup (is_at b) es) (sym settled.ages) ∙ settled.own) ∙ (ap (without_address b.0) cached.ages ∙ sym after.order));
+      below = λ q held found. ⊎_elim
+          (λ (same : q.0 ≡ b.0).
+          let none : newest q new ≡ None = ap (λ (n : ℕ). newest (record { 0 = n }) new) same ∙ settled.own in
+          absurd (cc))
+          (λ (other : q.0 ≢ b.0).
+          subst (λ (z : Size). q.0 < capacity_of z) (sym after.size)
+          (cached.below q held (sym (settled.others q (λ same. other (ap (λ (k : Lba). k.0) same))) ∙ found)))
+          (cases_eq q.0 b.0);
       known = λ q held found. ⊎_elim
           (λ (same : q.0 ≡ b.0).
           let none : newest q new ≡ None = ap (λ (n : ℕ). newest (record { 0 = n }) new) same ∙ settled.own in

@@ -1,6 +1,6 @@
 -- A command that meets a block dirty can be told that it was hardened.
 use Rattle.std.proofs.Common.{◌≡◌, ℕ, ◌<◌, ◌≤◌, Bool, true, false, not, cond, ltb, List, Option, Some, None, refl, sym, ap, ◌∙◌, subst}
-use Rattle.std.specs.Prelude.{IsTrue, IsSomeAnd}
+use Rattle.std.specs.Prelude.{IsTrue, IsSomeAnd, ◌&&◌}
 use Rattle.std.specs.Option.{option_and_then}
 use Rattle.disk_base.specs.declared.address.Lba.{Lba}
 use Rattle.disk_base.specs.declared.stage.Stage.{Stage}
@@ -16,7 +16,7 @@ use Rattle.cdb_reader.specs.declared.plan.Plan.TheVariants.{Ending, Unread, Answ
 use Rattle.command_engine.specs.declared.answer.Answer.TheVariants.{Hardened, NextDirty}
 use Rattle.command_engine.specs.declared.need.Need.TheVariants as need
 use Rattle.command_engine.specs.declared.step.Step.{Step}
-use Rattle.command_engine.specs.declared.step.Step.TheVariants.{Trying, Hardening, Faulted}
+use Rattle.command_engine.specs.declared.step.Step.TheVariants.{Trying, Hardening}
 use Rattle.command_engine.specs.declared.step.Recovery.{Recovery}
 use Rattle.command_engine.specs.Course.{Course}
 use Rattle.command_engine.specs.declared.need.Need.{Need}
@@ -25,6 +25,7 @@ use Rattle.command_engine.specs.Need.{need_by, taking, need_at_write}
 use Rattle.command_engine.specs.Answers.{fits, fits_need, after, is_hardened}
 use Rattle.drive_core.specs.Accepting.{accepted_of, under_way, Replaces}
 use Rattle.drive_core.specs.declared.accepted.Accepted.{Accepted}
+use Rattle.drive_core.specs.Served.{is_served_plan}
 
 -- what it may harden: the next block of a read that goes through, or a block of a sync's range
 pub data IsMet (b : Lba) : Plan → Step → Type 0 where
@@ -51,43 +52,44 @@ not_put moves hardened false one other b is = cc
 at_write : (moves hardened : Bool) (b : Lba) (w : writing.Writing) (step : Step) → fits_need moves hardened (need_at_write w step) (NextDirty (Some b)) ≡ true → ⊥
 at_write moves hardened b w (Trying p) is = not_put moves hardened w.through (record { 0 = w.at }) (record { 0 = w.at }) b is
 at_write moves hardened b w Hardening is = cc
-at_write moves hardened b w Faulted is = cc
+at_write moves hardened b w other is = cc
 
-met : (moves : Bool) (b : Lba) (plan : Plan) (step : Step) → fits_need moves (is_hardened plan) (need_by plan step) (NextDirty (Some b)) ≡ true → IsMet b plan step
-met moves b (Ending reply) step is = absurd (cc)
-met moves b (Unread at) step is = absurd (cc)
-met moves b (Answering bytes reply) step is = absurd (cc)
-met moves b Changing step is = absurd (cc)
-met moves b (Moving m) step is = absurd (cc)
-met moves b Over step is = absurd (cc)
-met moves b (Writing w) step is = absurd (at_write moves false b w step (if_left moves false (ltb w.at w.end) (need_at_write w step) b is).1)
-met moves b (Reading r) (Trying p) is =
+met : (moves : Bool) (b : Lba) (plan : Plan) (moved : ℕ) (step : Step) → is_served_plan plan ≡ true → fits_need moves (is_hardened plan) (need_by plan moved step) (NextDirty (Some b)) ≡ true → IsMet b plan step
+met moves b (Ending reply) moved step served is = absurd (cc)
+met moves b (Unread at) moved step served is = absurd (cc)
+met moves b (Answering bytes reply) moved step served is = absurd (cc)
+met moves b Changing moved step served is = absurd (cc)
+met moves b (Moving m) moved step served is = absurd (cc)
+met moves b Over moved step served is = absurd (cc)
+met moves b (Writing w) moved step served is = absurd (at_write moves false b w step (if_left moves false (ltb w.at w.end) (need_at_write w step) b is).1)
+met moves b (Reading r) moved (Trying p) served is =
     let left = if_left moves r.hardened (ltb r.at r.end) (taking r (next_stage p)) b is in
     at_stage moves b r p (next_stage p) (ltb-true r.at r.end left.0) left.1
-met moves b (Reading r) Hardening is = absurd (let left = if_left moves r.hardened (ltb r.at r.end) (need.Harden (record { 0 = r.at })) b is in let never = left.1 in cc)
-met moves b (Reading r) Faulted is = absurd (let left = if_left moves r.hardened (ltb r.at r.end) need.Nothing b is in let never = left.1 in cc)
-met moves b (Syncing y) (Trying p) is =
+met moves b (Reading r) moved Hardening served is = absurd (let left = if_left moves r.hardened (ltb r.at r.end) (need.Harden (record { 0 = r.at })) b is in let never = left.1 in cc)
+met moves b (Reading r) moved other served is = absurd (let left = if_left moves r.hardened (ltb r.at r.end) need.Nothing b is in let never = left.1 in cc)
+met moves b (Syncing y) moved (Trying p) served is =
     let left = if_left moves false (ltb y.at y.end) (need.Pass (record { 0 = y.at }) (record { 0 = y.end })) b is in
     let tests = both _ _ left.1 in
     sync y p (leb-true y.at b.0 tests.0) (ltb-true b.0 y.end tests.1)
-met moves b (Syncing y) Hardening is = absurd (let left = if_left moves false (ltb y.at y.end) (need.Harden (record { 0 = y.at })) b is in let never = left.1 in cc)
-met moves b (Syncing y) Faulted is = absurd (let left = if_left moves false (ltb y.at y.end) need.Nothing b is in let never = left.1 in cc)
+met moves b (Syncing y) moved Hardening served is = absurd (let left = if_left moves false (ltb y.at y.end) (need.Harden (record { 0 = y.at })) b is in let never = left.1 in cc)
+met moves b (Syncing y) moved other served is = absurd (let left = if_left moves false (ltb y.at y.end) need.Nothing b is in let never = left.1 in cc)
 
-pub met_dirty : (w : Course) (b : Lba) → IsTrue (fits w (NextDirty (Some b))) → IsMet b w.plan w.step
-met_dirty w b is = met w.settings.awre b w.plan w.step is
+pub met_dirty : (w : Course) (b : Lba) → is_served_plan w.plan ≡ true → IsTrue (fits w (NextDirty (Some b))) → IsMet b w.plan w.step
+met_dirty w b served is = met w.settings.awre b w.plan w.moved w.step served is
 
-then_fits : (settings : Settings) (gives : Bool) (recovered : Option Recovery) (b : Lba) (plan : Plan) (step : Step) → IsMet b plan step
-    → IsTrue (fits (after (record { settings = settings; gives = gives; plan = plan; step = step; recovered = recovered }) (NextDirty (Some b))) Hardened)
-then_fits settings gives recovered b plan step (read r p left through hardened at) =
+then_fits : (settings : Settings) (gives : Bool) (moved : ℕ) (recovered : Option Recovery) (b : Lba) (plan : Plan) (step : Step) → IsMet b plan step
+    → IsTrue (fits (after (record { settings = settings; gives = gives; moved = moved; plan = plan; step = step; recovered = recovered }) (NextDirty (Some b))) Hardened)
+then_fits settings gives moved recovered b plan step (read r p left through hardened at) =
     ap (λ (t : Bool). fits_need settings.awre r.hardened (cond t (need.Harden (record { 0 = r.at })) need.Nothing) Hardened) (lt-ltb r.at r.end left)
-then_fits settings gives recovered b plan step (sync y p low high) =
+then_fits settings gives moved recovered b plan step (sync y p low high) =
     ap (λ (t : Bool). fits_need settings.awre false (cond t (need.Harden (record { 0 = b.0 })) need.Nothing) Hardened) (lt-ltb b.0 y.end high)
 
-pub hardened_fits : (w : Course) (b : Lba) → IsTrue (fits w (NextDirty (Some b))) → IsTrue (fits (after w (NextDirty (Some b))) Hardened)
-hardened_fits w b fit = then_fits w.settings w.gives w.recovered b w.plan w.step (met_dirty w b fit)
+pub hardened_fits : (w : Course) (b : Lba) → is_served_plan w.plan ≡ true → IsTrue (fits w (NextDirty (Some b))) → IsTrue (fits (after w (NextDirty (Some b))) Hardened)
+hardened_fits w b served fit = then_fits w.settings w.gives w.moved w.recovered b w.plan w.step (met_dirty w b served fit)
 
 -- of a command that is under way
-pub fits_course : (o : Option Course) (b : Lba) → IsSomeAnd o (λ w. IsTrue (fits w (NextDirty (Some b)))) → (w : Course) × (o ≡ Some w) × IsTrue (fits w (NextDirty (Some b)))
+pub fits_course : (o : Option Course) (b : Lba) → IsSomeAnd o (λ w. IsTrue (is_served_plan w.plan && fits w (NextDirty (Some b))))
+    → (w : Course) × (o ≡ Some w) × IsTrue (is_served_plan w.plan && fits w (NextDirty (Some b)))
 fits_course None b fit = absurd fit
 fits_course (Some w) b fit = (w, refl, fit)
 

@@ -1,6 +1,6 @@
 -- A turn in which a command hardens the dirty block that it needs.
 use Rattle.std.proofs.Common.{◌≡◌, ℕ, ◌<◌, ◌≤◌, ◌^◌, Bool, true, false, cond, ltb, List, [], ◌∷◌, ◌++◌, Option, Some, None, IsSome, refl, sym, ap, ◌∙◌, subst, arith, ⊎_elim}
-use Rattle.std.specs.Prelude.{IsTrue}
+use Rattle.std.specs.Prelude.{IsTrue, IsSomeAnd, ◌&&◌}
 use Rattle.std.specs.Option.{option_map, option_and_then}
 use Rattle.std.proofs.lemmas.Bool.{ltb-true, ltb-false, cases_Bool}
 use Rattle.disk_base.specs.declared.address.Lba.{Lba}
@@ -30,6 +30,7 @@ use Rattle.command_engine.specs.Course.{Course}
 use Rattle.command_engine.specs.Need.{end_of}
 use Rattle.command_engine.specs.Ending.{ending_of}
 use Rattle.command_engine.specs.Answers.{fits}
+use Rattle.block_machine.proofs.Booleans.{and_both}
 use Rattle.block_machine.specs.declared.entry.Entry.{Entry}
 use Rattle.block_machine.specs.declared.entry.Entry.TheVariants.{Harden, Passed, Ended}
 use Rattle.block_machine.specs.declared.entry.Who.TheVariants.{Command}
@@ -60,6 +61,7 @@ use Rattle.drive_core.proofs.TakeTurns.{WorksAt, works_at, StandsAt, stands_in, 
 use Rattle.drive_core.proofs.Written.{MayStore}
 use Rattle.drive_scene.specs.Present.{IsPresentMap}
 use Rattle.drive_scene.proofs.Tables.{within_map}
+use Rattle.drive_core.specs.Served.{is_served_plan}
 
 -- what a turn that hardens a block is made of
 pub record IsHardened (s : Scene) (d e : Server) (c : ℕ) (b : Lba) (bytes : List ℕ) (w : Course) (m : Member) (a : Accepted) (before entries : List Entry)
@@ -80,27 +82,27 @@ sync_first s c m y b is_in owes needed =
     none_before_first s.hist.blocks y.at y.end b.0
     (sym (ap (option_and_then (needed_by_plan s.hist.blocks)) (owed_is s c m (Syncing y) is_in owes)) ∙ needed)
 
-moves_by : (s : Scene) (d e : Server) (c : ℕ) (b : Lba) (bytes : List ℕ) (settings : Settings) (gives : Bool) (rec : Option Recovery) (plan : Plan) (step : Step)
+moves_by : (s : Scene) (d e : Server) (c : ℕ) (b : Lba) (bytes : List ℕ) (settings : Settings) (gives : Bool) (moved : ℕ) (rec : Option Recovery) (plan : Plan) (step : Step)
     (m : Member) (a : Accepted) (before entries : List Entry) (reply : Option Reply) (told : Option told_end.Ended) → IsMet b plan step
-    → IsHardened s d e c b bytes (record { settings = settings; gives = gives; plan = plan; step = step; recovered = rec }) m a before entries reply told
+    → IsHardened s d e c b bytes (record { settings = settings; gives = gives; moved = moved; plan = plan; step = step; recovered = rec }) m a before entries reply told
     → Moves (Work c) s d e entries told
-moves_by s d e c b bytes settings gives rec plan step m a before entries reply told (read r p left through fresh at) is =
-    let Going : List Entry → Type 0 = λ es. Goes d e c (record a { work = Some (hardened_at b (met_course s c m settings gives rec p b bytes (Reading r))) }) (es ++ Harden (Command c) b ∷ []) entries told in
-    through_moves s c m settings gives rec p b bytes d e r a entries reply told is.turn is.is_in is.working left through fresh at is.reply_is
+moves_by s d e c b bytes settings gives moved rec plan step m a before entries reply told (read r p left through fresh at) is =
+    let Going : List Entry → Type 0 = λ es. Goes d e c (record a { work = Some (hardened_at b (met_course s c m settings gives moved rec p b bytes (Reading r))) }) (es ++ Harden (Command c) b ∷ []) entries told in
+    through_moves s c m settings gives moved rec p b bytes d e r a entries reply told is.turn is.is_in is.working left through fresh at is.reply_is
     (λ on. subst Going is.before_is (is.goes on))
-moves_by s d e c b bytes settings gives rec plan step m a before entries reply told (sync y p low high) is =
-    let w : Course = met_course s c m settings gives rec p b bytes (Syncing y) in
-    let Going : List Entry → Type 0 = λ es. Goes d e c (record a { work = Some (hardened_at b (met_course s c m settings gives rec p b bytes (Syncing y))) }) (es ++ Harden (Command c) b ∷ []) entries told in
+moves_by s d e c b bytes settings gives moved rec plan step m a before entries reply told (sync y p low high) is =
+    let w : Course = met_course s c m settings gives moved rec p b bytes (Syncing y) in
+    let Going : List Entry → Type 0 = λ es. Goes d e c (record a { work = Some (hardened_at b (met_course s c m settings gives moved rec p b bytes (Syncing y))) }) (es ++ Harden (Command c) b ∷ []) entries told in
     let Stopping : Reply → List Entry → Type 0 = λ x es. Stops d e c x (es ++ Harden (Command c) b ∷ []) entries told in
     ⊎_elim
     (λ (further : ltb y.at b.0 ≡ true).
     let is_before : before ≡ Passed c (lba y.at) b ∷ [] = is.before_is ∙ ap (λ (t : Bool). cond t (Passed c (lba y.at) b ∷ []) []) further in
-    sync_passes s c m settings gives rec p b bytes y d e a entries reply told is.turn is.is_in is.working high is.reply_is (ltb-true y.at b.0 further)
+    sync_passes s c m settings gives moved rec p b bytes y d e a entries reply told is.turn is.is_in is.working high is.reply_is (ltb-true y.at b.0 further)
     (sync_first s c m y b is.is_in is.working.owes is.needed) (λ on. subst Going is_before (is.goes on)) (λ x over. subst (Stopping x) is_before (is.stops x over)))
     (λ (next : ltb y.at b.0 ≡ false).
     let is_before : before ≡ [] = is.before_is ∙ ap (λ (t : Bool). cond t (Passed c (lba y.at) b ∷ []) []) next in
     let at : b.0 ≡ y.at = omega (arith, low, ltb-false y.at b.0 next) in
-    sync_hardens s c m settings gives rec p b bytes y d e a entries reply told is.turn is.is_in is.working high is.reply_is at
+    sync_hardens s c m settings gives moved rec p b bytes y d e a entries reply told is.turn is.is_in is.working high is.reply_is at
     (λ on. subst Going is_before (is.goes on)) (λ x over. subst (Stopping x) is_before (is.stops x over)))
     (cases_Bool (ltb y.at b.0))
 
@@ -108,7 +110,7 @@ pub hardened_moves : (s : Scene) (d e : Server) (c : ℕ) (b : Lba) (bytes : Lis
     (reply : Option Reply) (told : Option told_end.Ended) → IsTrue (fits w (NextDirty (Some b))) → IsHardened s d e c b bytes w m a before entries reply told
     → Moves (Work c) s d e entries told
 hardened_moves s d e c b bytes w m a before entries reply told fit is =
-    moves_by s d e c b bytes w.settings w.gives w.recovered w.plan w.step m a before entries reply told (met_dirty w b fit) is
+    moves_by s d e c b bytes w.settings w.gives w.moved w.recovered w.plan w.step m a before entries reply told (met_dirty w b is.working.served fit) is
 
 -- the store at the end of a turn is what it was before the command went on or ended
 pub store_closed : (mid e : Server) (c : ℕ) (reply : Option Reply) → (reply ≡ None → e ≡ mid) → ((x : Reply) → reply ≡ Some x → Leaves mid e c) → e.store ≡ mid.store
@@ -150,13 +152,21 @@ below_met : (b : Lba) (plan : Plan) (step : Step) (high : ℕ) → IsMet b plan 
 below_met b plan step high (read r p left through fresh at) range = omega (arith, left, at, range)
 below_met b plan step high (sync y p low before) range = omega (arith, before, range)
 
+-- the command meets it
+pub meets_dirty : (s : Scene) (d : Server) (c : ℕ) (b : Lba) (before : List Entry) → MayHardenFor s d c b before
+    → IsSomeAnd (under_way d.commands.items c) (λ w. IsTrue (is_served_plan w.plan && fits w (NextDirty (Some b))))
+meets_dirty s d c b before may =
+    let stands : StandsAt s c may.course = stands_in s d c may.course may.may.fits may.under_way in
+    subst (λ (o : Option Course). IsSomeAnd o (λ w. IsTrue (is_served_plan w.plan && fits w (NextDirty (Some b))))) (sym may.under_way)
+    (and_both (is_served_plan may.course.plan) (fits may.course (NextDirty (Some b))) stands.working.served may.fit)
+
 -- a write to the block's place is carried out
 pub may_harden : (s : Scene) (d : Server) (c : ℕ) (b : Lba) (before : List Entry) → MayHardenFor s d c b before → MayStore d.store b
 may_harden s d c b before may =
     let w : Course = may.course in
     let fits : Fits s d = may.may.fits in
     let stands : StandsAt s c may.course = stands_in s d c may.course may.may.fits may.under_way in
-    let below : b.0 < capacity s = below_met b w.plan w.step (capacity s) (met_dirty w b may.fit) stands.working.range in
+    let below : b.0 < capacity s = below_met b w.plan w.step (capacity s) (met_dirty w b stands.working.served may.fit) stands.working.range in
     record {
       below = subst (λ (m : DefectMap). b.0 < capacity_of m.size) (sym fits.store.map) (within_map s b fits.size below);
       powered = ap is_off fits.store.ops ∙ fits.store.powered;
@@ -202,7 +212,7 @@ turn_moves s d mid e c b before entries reply told may is =
     (ap (λ (x : Contained). x.ready) (is.hardens held.0 held.1).after) is.store is.finds is.may_be in
     let all : P e.store = subst P (sym closed) (is.hardens held.0 held.1, is.stores held.0 held.1, is.keeps, there) in
     let hardens : Hardens d.store b held.0 e.store = all.0 in
-    let below : b.0 < capacity s = below_met b w.plan w.step (capacity s) (met_dirty w b may.fit) stands.working.range in
+    let below : b.0 < capacity s = below_met b w.plan w.step (capacity s) (met_dirty w b stands.working.served may.fit) stands.working.range in
     let ops : e.store.platter.ops ≡ s.ops ++ Wrote (placed s.map b held.0) ∷ [] =
     ap (λ (x : Contained). x.platter.ops) hardens.after
     ∙ (λ i. fits.store.ops i ++ Wrote (placed (fits.store.map i) b held.0) ∷ []) in

@@ -69,10 +69,10 @@ untried-sync : (x h : Bool) (from to : Lba) → held_of h (cond x (need.Pass fro
 untried-sync true h from to = refl
 untried-sync false h from to = refl
 
-tried : (v : View) (plan : Plan) (step : Step) → IsAtBlock v plan step
-    → held_of (is_hardened plan) (need_by plan step) ≡ option_map lba (held_by_plan v.window plan)
-tried v plan step at =
-    at_block v (λ plan step. held_of (is_hardened plan) (need_by plan step) ≡ option_map lba (held_by_plan v.window plan))
+tried : (v : View) (moved : ℕ) (plan : Plan) (step : Step) → IsAtBlock v plan step
+    → held_of (is_hardened plan) (need_by plan moved step) ≡ option_map lba (held_by_plan v.window plan)
+tried v moved plan step at =
+    at_block v (λ plan step. held_of (is_hardened plan) (need_by plan moved step) ≡ option_map lba (held_by_plan v.window plan))
     (λ r p trying. ap (λ (t : Bool). held_of r.hardened (cond t (taking r (next_stage p)) need.Nothing)) (lt-ltb r.at r.end trying.left)
     ∙ tried-read v r p (next_stage p) trying refl trying.next)
     (λ w p left. untried-write (ltb w.at w.end) w.through false (lba w.at) ∙ sym (ap (option_map lba) (unheld_write v.window w left.0 left.2)))
@@ -83,7 +83,7 @@ held-is : (s : Scene) (d : Server) (c : ℕ) (w : Course) → Fits s d → under
     → held_of (is_hardened w.plan) (need_of w) ≡ option_map lba (held_block s c)
 held-is s d c w fits under_way =
     let stands : StandsAt s c w = stands_in s d c w fits under_way in
-    tried (view s c) w.plan w.step stands.working.at_block
+    tried (view s c) w.moved w.plan w.step stands.working.at_block
     ∙ sym (ap (λ (o : Option Plan). option_map lba (option_and_then (held_by_plan (s.windows c)) o)) (owed_at s c w stands))
 
 needed-read : (cache : Contents) (r : reading.Reading) (o : Option Stage) (first : Option Lba) → is_some o ≡ true → IsNeeded cache (taking r o) first
@@ -113,28 +113,28 @@ needed-sync s cache from to None cached is =
 needed-sync s cache from to (Some b) cached is =
     sym (ap (option_map lba) (first_dirty-is s.hist.blocks from.0 to.0 b.0 (least_of_cache s.hist.blocks cache from to b cached.dirty is.least)))
 
-needed-reading : (blocks : Blocks) (cache : Contents) (r : reading.Reading) (p : Progress) (first : Option Lba) → r.at < r.end → is_some (next_stage p) ≡ true
-    → IsNeeded cache (need_by (Reading r) (Trying p)) first → first ≡ option_map lba (needed_by_plan blocks (Reading r))
-needed-reading blocks cache r p first inside next is =
+needed-reading : (blocks : Blocks) (cache : Contents) (moved : ℕ) (r : reading.Reading) (p : Progress) (first : Option Lba) → r.at < r.end → is_some (next_stage p) ≡ true
+    → IsNeeded cache (need_by (Reading r) moved (Trying p)) first → first ≡ option_map lba (needed_by_plan blocks (Reading r))
+needed-reading blocks cache moved r p first inside next is =
     let left : ltb r.at r.end ≡ true = lt-ltb r.at r.end inside in
     needed-read cache r (next_stage p) first next
     (subst (λ (t : Bool). IsNeeded cache (cond t (taking r (next_stage p)) need.Nothing) first) left is)
     ∙ sym (ap (λ (t : Bool). option_map lba (cond t (Some r.at) None)) left)
 
-needed-writing : (blocks : Blocks) (cache : Contents) (w : writing.Writing) (p : Progress) (first : Option Lba) → w.at < w.end
-    → IsNeeded cache (need_by (Writing w) (Trying p)) first → first ≡ option_map lba (needed_by_plan blocks (Writing w))
-needed-writing blocks cache w p first inside is =
+needed-writing : (blocks : Blocks) (cache : Contents) (moved : ℕ) (w : writing.Writing) (p : Progress) (first : Option Lba) → w.at < w.end
+    → IsNeeded cache (need_by (Writing w) moved (Trying p)) first → first ≡ option_map lba (needed_by_plan blocks (Writing w))
+needed-writing blocks cache moved w p first inside is =
     let left : ltb w.at w.end ≡ true = lt-ltb w.at w.end inside in
     needed-write cache w.through (lba w.at) first
     (subst (λ (t : Bool). IsNeeded cache (cond t (cond w.through (need.PutThrough (lba w.at)) (need.Put (lba w.at))) need.Nothing) first) left is)
     ∙ sym (ap (λ (t : Bool). option_map lba (cond t (Some w.at) None)) left)
 
-needed : (s : Scene) (cache : Contents) (v : View) (plan : Plan) (step : Step) (first : Option Lba) → IsCached s cache → IsAtBlock v plan step
-    → IsNeeded cache (need_by plan step) first → first ≡ option_map lba (needed_by_plan s.hist.blocks plan)
-needed s cache v plan step first cached at is =
-    at_block v (λ plan step. IsNeeded cache (need_by plan step) first → first ≡ option_map lba (needed_by_plan s.hist.blocks plan))
-    (λ r p trying. needed-reading s.hist.blocks cache r p first trying.left trying.next)
-    (λ w p left. needed-writing s.hist.blocks cache w p first left.1)
+needed : (s : Scene) (cache : Contents) (v : View) (moved : ℕ) (plan : Plan) (step : Step) (first : Option Lba) → IsCached s cache → IsAtBlock v plan step
+    → IsNeeded cache (need_by plan moved step) first → first ≡ option_map lba (needed_by_plan s.hist.blocks plan)
+needed s cache v moved plan step first cached at is =
+    at_block v (λ plan step. IsNeeded cache (need_by plan moved step) first → first ≡ option_map lba (needed_by_plan s.hist.blocks plan))
+    (λ r p trying. needed-reading s.hist.blocks cache moved r p first trying.left trying.next)
+    (λ w p left. needed-writing s.hist.blocks cache moved w p first left.1)
     (λ y p left pass. needed-sync s cache (lba y.at) (lba y.end) first cached
     (subst (λ (t : Bool). IsNeeded cache (cond t (need.Pass (lba y.at) (lba y.end)) need.Nothing) first) (lt-ltb y.at y.end left.1) pass)) plan step at is
 
@@ -143,7 +143,7 @@ needed-is : (s : Scene) (d : Server) (c : ℕ) (w : Course) (first : Option Lba)
     → IsNeeded d.store.cache (need_of w) first → first ≡ option_map lba (needed_block s c)
 needed-is s d c w first fits under_way is =
     let stands : StandsAt s c w = stands_in s d c w fits under_way in
-    needed s d.store.cache (view s c) w.plan w.step first fits.cached stands.working.at_block is
+    needed s d.store.cache (view s c) w.moved w.plan w.step first fits.cached stands.working.at_block is
     ∙ sym (ap (λ (o : Option Plan). option_map lba (option_and_then (needed_by_plan s.hist.blocks) o)) (owed_at s c w stands))
 
 -- a command that isn't in, or wasn't started, owes nothing

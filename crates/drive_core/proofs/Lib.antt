@@ -20,6 +20,7 @@ pub mod ReadTurns
 pub mod Hardened
 pub mod Closing
 pub mod Taken
+pub mod WrittenOut
 pub mod HardenMoves
 pub mod MetMoves
 pub mod SyncMoves
@@ -28,6 +29,8 @@ pub mod TakeTurns
 pub mod Hardens
 pub mod Syncs
 pub mod WorldTurns
+pub mod Destaged
+pub mod Destages
 pub mod Serves
 pub mod Unmoved
 pub mod ArrivalTurns

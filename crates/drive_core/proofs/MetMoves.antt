@@ -48,7 +48,8 @@ use Rattle.drive_core.proofs.Closing.{Goes}
 use Rattle.drive_scene.proofs.Doing.{owed-begun, hardened_duty}
 use Rattle.drive_scene.specs.Kinds.{IsHarden}
 use Rattle.drive_scene.proofs.HardenTurns.{hardened-newest}
-use Rattle.drive_core.proofs.HardenMoves.{IsHardenTurn, op_of, harden_on}
+use Rattle.drive_core.proofs.HardenMoves.{IsHardenTurn, harden_on}
+use Rattle.drive_core.proofs.WrittenOut.{op_of}
 
 -- a command in the set owes its plan
 pub owed_is : (s : Scene) (c : ℕ) (m : Member) (plan : Plan) → member_of s.hist.set c ≡ Some m → (s.hist.duties c).owes ≡ Some plan → owed_by s.hist c ≡ Some plan
@@ -61,10 +62,10 @@ next-through r b left through fresh at =
     ap (λ (t : Bool). cond t (Some (Reading (record r { hardened = true }))) None)
     (and_both _ _ (and_both _ _ (and_both _ _ through (ap not fresh)) (eq-eqb b.0 r.at at)) (lt-ltb r.at r.end left))
 
-module _ (s : Scene) (c : ℕ) (m : Member) (settings : Settings) (gives : Bool) (rec : Option Recovery) (p : Progress) (b : Lba) (bytes : List ℕ) where
+module _ (s : Scene) (c : ℕ) (m : Member) (settings : Settings) (gives : Bool) (moved : ℕ) (rec : Option Recovery) (p : Progress) (b : Lba) (bytes : List ℕ) where
   -- where a command stands
   abbrev pub met_course : Plan → Course
-  met_course plan = record { settings = settings; gives = gives; plan = plan; step = Trying p; recovered = rec }
+  met_course plan = record { settings = settings; gives = gives; moved = moved; plan = plan; step = Trying p; recovered = rec }
 
   -- the window of the command is empty behind a harden
   window-hardened : (ops : List Op) → (after_half s c ops (Harden (Command c) b ∷ [])).windows c ≡ []

@@ -66,6 +66,7 @@ pub cached_got : (s t : Scene) (cache : Contents) → IsGotOnly s t → IsCached
 cached_got s t cache got cached = record {
   dirty = λ b. got.newest b.0 ∙ cached.dirty b;
   ages = cached.ages ∙ sym got.order;
+  below = λ b bytes is. subst (λ (z : Size). b.0 < capacity_of z) (sym got.size) (cached.below b bytes is);
   known = λ b bytes is. known_got s t b (Data bytes) got (cached.known b bytes is);
   clean = λ b bytes is. clean_got s t b bytes got (cached.clean b bytes is);
 }
@@ -76,6 +77,7 @@ pub cached_keep : (t : Scene) (cache : Contents) (b : Lba) (bytes : List ℕ) �
 cached_keep t cache b bytes law once cached clean = record {
   dirty = cached.dirty;
   ages = cached.ages;
+  below = cached.below;
   known = cached.known;
   clean = λ q w is. ⊎_elim
       (λ (same : is_at b q ≡ true).

@@ -22,7 +22,7 @@ use Rattle.block_machine.specs.Blocks as blocks
 use Rattle.block_machine.specs.Deeds.{is_crowded}
 use Rattle.block_machine.specs.State.{Duty}
 use Rattle.block_machine.specs.Steps.{begun}
-use Rattle.drive_scene.specs.Scene.{Scene}
+use Rattle.drive_scene.specs.Scene.{Scene, capacity}
 use Rattle.drive_scene.specs.Evidence.{IsKnown}
 use Rattle.drive_core.specs.Fits.{IsClean, IsCached}
 use Rattle.sector_store.specs.Caching.{TakesIn, LeavesOut, NewestBut}
@@ -50,7 +50,7 @@ named b (e ∷ es) v is = by (named b es v) (is_at b e.0) refl is
     by rest true at is = rw (turned b e.0 true at) refl
     by rest false at is = rw (turned b e.0 false at) (rest is)
 
-unnamed : (b : Lba) (es : List (Lba × List ℕ)) → lookup (is_at b) es ≡ None → list_any (λ a. eqb a b.0) (names es) ≡ false
+pub unnamed : (b : Lba) (es : List (Lba × List ℕ)) → lookup (is_at b) es ≡ None → list_any (λ a. eqb a b.0) (names es) ≡ false
 unnamed b [] is = refl
 unnamed b (e ∷ es) is = by (unnamed b es) (is_at b e.0) refl is
   where
@@ -113,8 +113,8 @@ apart : (b q : Lba) → is_at b q ≡ false → q.0 ≢ b.0
 apart b q differs same = let yes : is_at b q ≡ true = eq-eqb b.0 q.0 (sym same) in cc
 
 -- the cache after a put
-pub cached_put : (s t : Scene) (c : ℕ) (b : Lba) (bytes : List ℕ) (old new : Contents) → IsAfterPut s t c b bytes → TakesIn b bytes old new → IsCached s old → IsCached t new
-cached_put s t c b bytes old new after takes cached = record {
+pub cached_put : (s t : Scene) (c : ℕ) (b : Lba) (bytes : List ℕ) (old new : Contents) → IsAfterPut s t c b bytes → b.0 < capacity s → TakesIn b bytes old new → IsCached s old → IsCached t new
+cached_put s t c b bytes old new after low takes cached = record {
   dirty = λ q. ⊎_elim
       (λ (same : q.0 ≡ b.0).
       ap (λ (n : ℕ). blocks.newest (t.hist.blocks n)) same ∙ (ap blocks.newest after.own
@@ -123,6 +123,11 @@ cached_put s t c b bytes old new after takes cached = record {
       ap blocks.newest (after.others q.0 other) ∙ (cached.dirty q ∙ sym (ap (option_map Data) (elsewhere b q (Some bytes) old new takes.seen other))))
       (cases_eq q.0 b.0);
   ages = ap names takes.dirty ∙ (names-put b bytes old.dirty ∙ (ap (with_address b.0) cached.ages ∙ sym after.order));
+  below = λ q held found. ⊎_elim
+      (λ (same : q.0 ≡ b.0). subst (λ (z : Size). q.0 < capacity_of z) (sym after.size) (subst (λ (n : ℕ). n < capacity s) (sym same) low))
+      (λ (other : q.0 ≢ b.0).
+      subst (λ (z : Size). q.0 < capacity_of z) (sym after.size) (cached.below q held (sym (elsewhere b q (Some bytes) old new takes.seen other) ∙ found)))
+      (cases_eq q.0 b.0);
   known = λ q held found. ⊎_elim
       (λ (same : q.0 ≡ b.0).
       let is : newest q new ≡ Some bytes = here b q (Some bytes) old new takes.seen same in
@@ -155,6 +160,11 @@ cached_through s t b bytes old new after leaves cached = record {
       (cases_eq q.0 b.0);
   ages = ap names leaves.dirty ∙ (keys_without b old.dirty (ap (lookup (is_at b)) (sym leaves.dirty) ∙ here b b None old new leaves.seen refl)
       ∙ (ap (without_address b.0) cached.ages ∙ sym after.order));
+  below = λ q held found. ⊎_elim
+      (λ (same : q.0 ≡ b.0). let none : newest q new ≡ None = here b q None old new leaves.seen same in absurd (cc))
+      (λ (other : q.0 ≢ b.0).
+      subst (λ (z : Size). q.0 < capacity_of z) (sym after.size) (cached.below q held (sym (elsewhere b q None old new leaves.seen other) ∙ found)))
+      (cases_eq q.0 b.0);
   known = λ q held found. ⊎_elim
       (λ (same : q.0 ≡ b.0). let none : newest q new ≡ None = here b q None old new leaves.seen same in absurd (cc))
       (λ (other : q.0 ≢ b.0). known_then s t b q bytes (Data held) after (cached.known q held (sym (elsewhere b q None old new leaves.seen other) ∙ found)))

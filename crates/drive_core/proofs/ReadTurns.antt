@@ -60,10 +60,10 @@ next-lost r dirty left clean =
     ap (λ (b : Bool). cond b (Some (Unread r.at)) None)
     (and_both (eqb r.at r.at && ltb r.at r.end) (not (r.through && dirty)) (and_both (eqb r.at r.at) (ltb r.at r.end) (eq-eqb r.at r.at refl) (lt-ltb r.at r.end left)) (ap not clean))
 
-module _ (s : Scene) (c : ℕ) (m : Member) (settings : Settings) (gives : Bool) (r : reading.Reading) (p : Progress) (rec : Option Recovery) (stage : Stage) where
+module _ (s : Scene) (c : ℕ) (m : Member) (settings : Settings) (gives : Bool) (moved : ℕ) (r : reading.Reading) (p : Progress) (rec : Option Recovery) (stage : Stage) where
   -- where the read stands
   abbrev pub course : Course
-  course = record { settings = settings; gives = gives; plan = Reading r; step = Trying p; recovered = rec }
+  course = record { settings = settings; gives = gives; moved = moved; plan = Reading r; step = Trying p; recovered = rec }
 
   -- a member is in after half a turn too
   -- the window of the command is empty behind a get
@@ -177,6 +177,7 @@ module _ (s : Scene) (c : ℕ) (m : Member) (settings : Settings) (gives : Bool)
       ap (λ (b : Bool). record {
         settings = settings;
         gives = gives;
+        moved = moved;
         plan = cond b (Unread r.at) (Reading r);
         step = cond b (Trying (begun settings.retry)) (Trying (answered p false));
         recovered = rec;

@@ -16,7 +16,7 @@ use Rattle.cdb_reader.specs.Replies.{good}
 use Rattle.cdb_reader.specs.Request.{Request, Read, Write, WriteAndVerify, Verify, SynchronizeCache, request_of}
 use Rattle.cdb_reader.specs.Request as request
 use Rattle.command_engine.specs.declared.step.Step.TheVariants.{Trying}
-use Rattle.command_engine.specs.Course.{Course, course_of, gives_data, moves_blocks, plan_without_blocks}
+use Rattle.command_engine.specs.Course.{Course, course_of, gives_data, plan_without_blocks}
 use Rattle.command_engine.specs.Need.{end_of}
 use Rattle.block_machine.specs.declared.entry.Entry.{Entry}
 use Rattle.block_machine.specs.declared.entry.Entry.TheVariants.{Started}
@@ -135,13 +135,6 @@ plan_served r sent x (writes_verified from count) = refl
 plan_served r sent x (verifies from count) = refl
 plan_served r sent x (syncs from count) = refl
 
-unmoved : (r : Request) → IsOnBlocks r → moves_blocks r ≡ false
-unmoved r (reads from count fua) = refl
-unmoved r (writes from count fua) = refl
-unmoved r (writes_verified from count) = refl
-unmoved r (verifies from count) = refl
-unmoved r (syncs from count) = refl
-
 at_first : (r : Request) (sent : DataOut) (x : Settings) → IsOnBlocks r → eqb (count_of r) 0 ≡ false → (v : View) → v.window ≡ [] → v.settings ≡ x
     → v.holds_dirty ≡ false → IsAtBlock v (work_plan r sent x) (Trying (progress.begun x.retry))
 at_first r sent x (reads from count fua) some v window same clean =
@@ -230,9 +223,6 @@ begins_on s d c command first work none is first_is =
 pub range_on : (s : Scene) (d : Server) (c : ℕ) (r : Request) → BeginsOn s d c r → in_range r (2 ^ 32) ≡ true
 range_on s d c r is = let few : capacity s ≤ 4096 = few_blocks s in range_up r (capacity s) (2 ^ 32) is.on (omega arith) is.range
 
-pub unmoved_on : (s : Scene) (d : Server) (c : ℕ) (r : Request) → BeginsOn s d c r → moves_blocks r ≡ false
-unmoved_on s d c r is = unmoved r is.on
-
 -- the data that came with it
 pub sent_on : (s : Scene) (d : Server) (c : ℕ) (r : Request) (sent : DataOut) → (is : BeginsOn s d c r) → sent ≡ is.may.a.sent → sent ≡ (s.hist.duties c).sent
 sent_on s d c r sent is out = out ∙ sym is.may.waiting.sent
@@ -242,6 +232,7 @@ first_by_engine : (r : Request) (sent : DataOut) (x : Settings) → IsOnBlocks r
     → course_of r sent x ≡ record {
       settings = x;
       gives = gives_data r;
+      moved = 0;
       plan = unwrap_or (unless_empty (count_of r) (work_plan r sent x)) (plan_without_blocks r);
       step = Trying (progress.begun x.retry);
       recovered = None;
@@ -257,6 +248,7 @@ course_on : (s : Scene) (d : Server) (c : ℕ) (r : Request) (sent : DataOut) (s
     → w ≡ record {
       settings = s.hist.settings;
       gives = gives_data r;
+      moved = 0;
       plan = work_plan r (s.hist.duties c).sent s.hist.settings;
       step = Trying (progress.begun s.hist.settings.retry);
       recovered = None;
@@ -266,6 +258,7 @@ course_on s d c r sent settings w is settings_is sent_is w_is =
     ∙ ap (λ (b : Bool). record {
       settings = s.hist.settings;
       gives = gives_data r;
+      moved = 0;
       plan = unwrap_or (cond b (Some (Ending good)) (Some (work_plan r (s.hist.duties c).sent s.hist.settings))) (plan_without_blocks r);
       step = Trying (progress.begun s.hist.settings.retry);
       recovered = None;

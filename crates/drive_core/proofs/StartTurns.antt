@@ -53,7 +53,8 @@ use Rattle.drive_scene.specs.Ending.{ended_of_member}
 use Rattle.drive_scene.specs.Evidence.{IsEndShown, page_of}
 use Rattle.drive_core.specs.Served.{is_served, is_served_plan}
 use Rattle.command_engine.specs.Need.{end_of}
-use Rattle.drive_scene.specs.Scene.{Scene, capacity, scene_after, window_after, beat}
+use Rattle.drive_scene.specs.Scene.{Scene, capacity, scene_after, window_after, background_after, beat}
+use Rattle.drive_scene.proofs.DestageTurns.{quiet_back}
 use Rattle.drive_scene.specs.Able.{refusal_of_work, held_by_other, work_refused}
 use Rattle.drive_scene.specs.Holds.{held_block, held_by_plan, needed_block}
 use Rattle.drive_core.specs.Accepting.{accepted_of, under_way, Replaces, Drops}
@@ -225,6 +226,7 @@ ended_scene s c settings waiting entries duties each_window each_settings recove
   recovered = recovered;
   since = s.since ++ [];
   entries = s.entries ++ entries;
+  back = background_after s (beat (Work c) entries []);
 }
 
 module _ (s : Scene) (d e : Server) (c : ℕ) {settings : Settings} {waiting : Waiting} (is : IsBegun s d e c settings waiting) where
@@ -270,6 +272,7 @@ module _ (s : Scene) (d e : Server) (c : ℕ) {settings : Settings} {waiting : W
         apart = apart_none s t c is.fits.apart (λ q other. held-alike s t q (alike q other)) (held_out t c gone);
         windows = short;
         stands = still_stands s d e is.fits is.store;
+        unstuck = quiet_back s (beat (Work c) entries []) is.fits.unstuck;
       }
 
   -- the command that ended is told as the set had it
@@ -332,7 +335,7 @@ module _ (s : Scene) (d e : Server) (c : ℕ) (is : IsStartOf s d e c) (still : 
       → owes_nothing_now (Some plan) ≡ true
       → ((v : View) → v.window ≡ [] → v.settings ≡ s.hist.settings → v.holds_dirty ≡ false → IsAtBlock v plan (Trying (progress.begun s.hist.settings.retry)))
       → held_by_plan [] plan ≡ None → end_of plan ≤ capacity s → IsOwnRange (s.hist.duties c).asks plan → is_served_plan plan ≡ true
-      → w ≡ record { settings = s.hist.settings; gives = gives; plan = plan; step = Trying (progress.begun s.hist.settings.retry); recovered = None }
+      → w ≡ record { settings = s.hist.settings; gives = gives; moved = 0; plan = plan; step = Trying (progress.begun s.hist.settings.retry); recovered = None }
       → e.set ≡ with_started d.set c → Replaces d.commands.items e.commands.items c (record is.may.a { sent = Nothing; work = Some w })
       → entries ≡ Started c ∷ [] → told ≡ None → Moves (Work c) s d e entries told
   starts_working w entries told gives plan plan_is settled at_block unheld range own_range served w_is set_is replaces entries_are told_is =
@@ -344,7 +347,7 @@ module _ (s : Scene) (d e : Server) (c : ℕ) (is : IsStartOf s d e c) (still : 
       ∙ ap (λ (b : Bool). cond (b || false) [] (s.windows c ++ [])) (eq-eqb c c refl) in
       let held : held_block t c ≡ None = (λ i. option_and_then (held_by_plan (window i)) (owes i)) ∙ unheld in
       let working : IsWorking (view t c) (record is.may.m { started = true })
-      (record { settings = s.hist.settings; gives = gives; plan = plan; step = Trying (progress.begun s.hist.settings.retry); recovered = None }) = record {
+      (record { settings = s.hist.settings; gives = gives; moved = 0; plan = plan; step = Trying (progress.begun s.hist.settings.retry); recovered = None }) = record {
         started = refl;
         owes = start-duty s c ∙ ap Some plan_is;
         settings = settings;
@@ -404,6 +407,7 @@ module _ (s : Scene) (d e : Server) (c : ℕ) (is : IsStartOf s d e c) (still : 
           apart = apart_none s t c is.fits.apart (λ q other. held-alike s t q (alike q other)) held;
           windows = windows s d e c is (Started c ∷ []);
           stands = still_stands s d e is.fits is.store;
+          unstuck = quiet_back s (beat (Work c) (Started c ∷ []) []) is.fits.unstuck;
         };
         counted = omega (arith, is.arrived);
         ended = refl;

@@ -46,7 +46,8 @@ use Rattle.drive_scene.proofs.Elsewhere.{after_half}
 use Rattle.drive_core.proofs.Closing.{Goes, Stops}
 use Rattle.drive_scene.proofs.Doing.{owed-begun, passed_owes, hardened_duty}
 use Rattle.drive_scene.specs.Kinds.{hardened_blocks, passed_state}
-use Rattle.drive_core.proofs.HardenMoves.{IsHardenTurn, op_of, harden_on, harden_ends}
+use Rattle.drive_core.proofs.HardenMoves.{IsHardenTurn, harden_on, harden_ends}
+use Rattle.drive_core.proofs.WrittenOut.{op_of}
 use Rattle.drive_core.proofs.MetMoves.{met_course, owed_is}
 
 -- a sync passes over blocks, or hardens the next one
@@ -68,13 +69,13 @@ next-synced y dirty over = ap (λ (t : Bool). cond t (Some Over) None) (or_left 
 abbrev pub behind : syncing.Syncing → ℕ → syncing.Syncing
 behind y at = record { at = at; end = y.end }
 
-module _ (s : Scene) (c : ℕ) (m : Member) (settings : Settings) (gives : Bool) (rec : Option Recovery) (p : Progress) (y : syncing.Syncing) (at : ℕ)
-    (is_in : member_of s.hist.set c ≡ Some m) (working : IsWorking (view s c) m (met_course s c m settings gives rec p (record { 0 = at }) [] (Syncing y)))
+module _ (s : Scene) (c : ℕ) (m : Member) (settings : Settings) (gives : Bool) (moved : ℕ) (rec : Option Recovery) (p : Progress) (y : syncing.Syncing) (at : ℕ)
+    (is_in : member_of s.hist.set c ≡ Some m) (working : IsWorking (view s c) m (met_course s c m settings gives moved rec p (record { 0 = at }) [] (Syncing y)))
     (ops : List Op) (half : List Entry) (h : State) (is : Half s c ops half h (Syncing (behind y at))) (owes : (h.duties c).owes ≡ Some (Syncing (behind y at)))
     (window : (after_half s c ops half).windows c ≡ []) (recovered : (after_half s c ops half).recovered c ≡ s.recovered c) where
   -- where it stands before the rest of its range
   pub staged_sync : (a : Accepted) → at < y.end
-      → IsCommand (view (after_half s c ops half) c) (record a { work = Some (record { settings = settings; gives = gives; plan = Syncing (behind y at); step = Trying (begun settings.retry); recovered = rec }) })
+      → IsCommand (view (after_half s c ops half) c) (record a { work = Some (record { settings = settings; gives = gives; moved = moved; plan = Syncing (behind y at); step = Trying (begun settings.retry); recovered = rec }) })
   staged_sync a left =
       let t : Scene = after_half s c ops half in
       let duty : t.hist.duties c ≡ h.duties c = ap (λ (x : State). x.duties c) is.reached in
@@ -96,12 +97,12 @@ module _ (s : Scene) (c : ℕ) (m : Member) (settings : Settings) (gives : Bool)
         };
       }
 
-module _ (s : Scene) (c : ℕ) (m : Member) (settings : Settings) (gives : Bool) (rec : Option Recovery) (p : Progress) (b : Lba) (bytes : List ℕ) (y : syncing.Syncing)
+module _ (s : Scene) (c : ℕ) (m : Member) (settings : Settings) (gives : Bool) (moved : ℕ) (rec : Option Recovery) (p : Progress) (b : Lba) (bytes : List ℕ) (y : syncing.Syncing)
     (d e : Server) (a : Accepted) (entries : List Entry) (reply : Option Reply) (told : Option told_end.Ended) (turn : IsHardenTurn s d e c b bytes)
-    (is_in : member_of s.hist.set c ≡ Some m) (working : IsWorking (view s c) m (met_course s c m settings gives rec p b bytes (Syncing y))) (below : b.0 < y.end)
-    (reply_is : reply ≡ ending_of (hardened_at b (met_course s c m settings gives rec p b bytes (Syncing y)))) where
+    (is_in : member_of s.hist.set c ≡ Some m) (working : IsWorking (view s c) m (met_course s c m settings gives moved rec p b bytes (Syncing y))) (below : b.0 < y.end)
+    (reply_is : reply ≡ ending_of (hardened_at b (met_course s c m settings gives moved rec p b bytes (Syncing y)))) where
   abbrev then_course : Course
-  then_course = hardened_at b (met_course s c m settings gives rec p b bytes (Syncing y))
+  then_course = hardened_at b (met_course s c m settings gives moved rec p b bytes (Syncing y))
 
   -- once the block is hardened, whatever came before it in the turn
   synced : (half : List Entry) (h : State) → Half s c (op_of s b bytes ∷ []) half h (Syncing (behind y (b.0 + 1))) → h.blocks ≡ hardened_blocks s b
@@ -115,7 +116,7 @@ module _ (s : Scene) (c : ℕ) (m : Member) (settings : Settings) (gives : Bool)
       (λ (left : ltb (b.0 + 1) y.end ≡ true).
       let on : reply ≡ None = reply_is ∙ ap (λ (t : Bool). cond t None (Some good)) left in
       harden_on s d e c b bytes turn half entries h (Syncing (behind y (b.0 + 1))) told is blocks_are order (record a { work = Some then_course }) refl none
-      (staged_sync s c m settings gives rec p y (b.0 + 1) is_in working (op_of s b bytes ∷ []) half h is owes window recovered a (ltb-true (b.0 + 1) y.end left))
+      (staged_sync s c m settings gives moved rec p y (b.0 + 1) is_in working (op_of s b bytes ∷ []) half h is owes window recovered a (ltb-true (b.0 + 1) y.end left))
       (holds_none s c ((after_half s c (op_of s b bytes ∷ []) half).windows c) (Syncing (behind y (b.0 + 1))) (unheld_sync _ (behind y (b.0 + 1)) window)) (goes on))
       (λ (last : ltb (b.0 + 1) y.end ≡ false).
       let end_is : b.0 + 1 ≡ y.end = omega (arith, below, ltb-false (b.0 + 1) y.end last) in

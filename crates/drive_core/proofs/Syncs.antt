@@ -19,9 +19,10 @@ use Rattle.command_engine.specs.declared.answer.Answer.TheVariants.{NextDirty}
 use Rattle.command_engine.specs.declared.need.Need.{Need}
 use Rattle.command_engine.specs.declared.need.Need.TheVariants as need
 use Rattle.command_engine.specs.declared.step.Step.{Step}
-use Rattle.command_engine.specs.declared.step.Step.TheVariants.{Trying, Hardening, Faulted}
+use Rattle.command_engine.specs.declared.step.Step.TheVariants.{Trying, Hardening}
+use Rattle.command_engine.specs.declared.step.Step.TheVariants as step
 use Rattle.command_engine.specs.Course.{Course}
-use Rattle.command_engine.specs.Need.{need_of, need_by, taking, need_at_read, end_of}
+use Rattle.command_engine.specs.Need.{need_of, need_by, taking, taking_block, need_at_read, need_at_move, in_hand, end_of}
 use Rattle.command_engine.specs.Ending.{ending_of}
 use Rattle.command_engine.specs.Answers.{fits_need, after, is_hardened}
 use Rattle.block_machine.specs.declared.entry.Entry.{Entry}
@@ -84,7 +85,7 @@ taking_other r (Some stage) = tt
 read_other : (r : reading.Reading) (step : Step) → IsOther (need_at_read r step)
 read_other r (Trying p) = taking_other r (next_stage p)
 read_other r Hardening = tt
-read_other r Faulted = tt
+read_other r other = tt
 
 write_other : (w : writing.Writing) (t : Bool) → IsOther (cond t (need.PutThrough (lba w.at)) (need.Put (lba w.at)))
 write_other w true = tt
@@ -95,21 +96,32 @@ by_step : (y : syncing.Syncing) (p : Progress) (from to : Lba) (t : Bool) → lt
 by_step y p from to true left is = record { y = y; p = p; plan_is = refl; step_is = refl; from_is = cc; to_is = cc; left = ltb-true y.at y.end left }
 by_step y p from to false left is = absurd (cc)
 
-needs_pass : (plan : Plan) (step : Step) (from to : Lba) → need_by plan step ≡ need.Pass from to → NeedsPass plan step from to
-needs_pass (Syncing y) (Trying p) from to is = by_step y p from to (ltb y.at y.end) refl is
-needs_pass (Syncing y) Hardening from to is = absurd (no_other (ltb y.at y.end) (need.Harden (lba y.at)) from to is tt)
-needs_pass (Syncing y) Faulted from to is = absurd (no_other (ltb y.at y.end) need.Nothing from to is tt)
-needs_pass (Reading r) step from to is = absurd (no_other (ltb r.at r.end) (need_at_read r step) from to is (read_other r step))
-needs_pass (Writing w) (Trying p) from to is =
+-- nor is it one of a list of blocks
+not_listed : (b : Lba) (o : Option Stage) (from to : Lba) → taking_block b true o ≡ need.Pass from to → ⊥
+not_listed b None from to is = cc
+not_listed b (Some stage) from to is = cc
+
+no_list : (o : Option Lba) (step : Step) (from to : Lba) → need_at_move o step ≡ need.Pass from to → ⊥
+no_list None step from to is = cc
+no_list (Some b) (Trying p) from to is = not_listed b (next_stage p) from to is
+no_list (Some b) (step.Moving why) from to is = cc
+no_list (Some b) other from to is = cc
+
+needs_pass : (plan : Plan) (moved : ℕ) (step : Step) (from to : Lba) → need_by plan moved step ≡ need.Pass from to → NeedsPass plan step from to
+needs_pass (Syncing y) moved (Trying p) from to is = by_step y p from to (ltb y.at y.end) refl is
+needs_pass (Syncing y) moved Hardening from to is = absurd (no_other (ltb y.at y.end) (need.Harden (lba y.at)) from to is tt)
+needs_pass (Syncing y) moved other from to is = absurd (no_other (ltb y.at y.end) need.Nothing from to is tt)
+needs_pass (Reading r) moved step from to is = absurd (no_other (ltb r.at r.end) (need_at_read r step) from to is (read_other r step))
+needs_pass (Writing w) moved (Trying p) from to is =
     absurd (no_other (ltb w.at w.end) (cond w.through (need.PutThrough (lba w.at)) (need.Put (lba w.at))) from to is (write_other w w.through))
-needs_pass (Writing w) Hardening from to is = absurd (no_other (ltb w.at w.end) need.Nothing from to is tt)
-needs_pass (Writing w) Faulted from to is = absurd (no_other (ltb w.at w.end) need.Nothing from to is tt)
-needs_pass (Ending reply) step from to is = absurd (cc)
-needs_pass (Unread at) step from to is = absurd (cc)
-needs_pass (Answering bytes reply) step from to is = absurd (cc)
-needs_pass Changing step from to is = absurd (cc)
-needs_pass (Moving x) step from to is = absurd (cc)
-needs_pass Over step from to is = absurd (cc)
+needs_pass (Writing w) moved Hardening from to is = absurd (no_other (ltb w.at w.end) need.Nothing from to is tt)
+needs_pass (Writing w) moved other from to is = absurd (no_other (ltb w.at w.end) need.Nothing from to is tt)
+needs_pass (Ending reply) moved step from to is = absurd (cc)
+needs_pass (Unread at) moved step from to is = absurd (cc)
+needs_pass (Answering bytes reply) moved step from to is = absurd (cc)
+needs_pass Changing moved step from to is = absurd (cc)
+needs_pass (Moving m) moved step from to is = absurd (no_list (in_hand m moved) step from to is)
+needs_pass Over moved step from to is = absurd (cc)
 
 -- the dirty block that the cache finds is hardened
 pub may_harden : (s : Scene) (d : Server) (c : ℕ) (from to b : Lba) (entries : List Entry) → MayWork s d c → Needs d.commands.items c (need.Pass from to)
@@ -118,7 +130,7 @@ may_harden s d c from to b entries may needs least entries_are =
     let given : GivenBy need_of (under_way d.commands.items c) (need.Pass from to) = given_by need_of (under_way d.commands.items c) (need.Pass from to) needs in
     let w : Course = given.x in
     let stands : StandsAt s c given.x = stands_in s d c given.x may.fits given.is in
-    let pass : NeedsPass w.plan w.step from to = needs_pass w.plan w.step from to given.gives in
+    let pass : NeedsPass w.plan w.step from to = needs_pass w.plan w.moved w.step from to given.gives in
     let first : IsFirstDirty s.hist.blocks from.0 to.0 b.0 = least_of_cache s.hist.blocks d.store.cache from to b may.fits.cached.dirty least in
     let fit : fits_need w.settings.awre (is_hardened w.plan) (need.Pass from to) (NextDirty (Some b)) ≡ true =
     and_both (leb from.0 b.0) (ltb b.0 to.0) (le-leb from.0 b.0 first.low) (lt-ltb b.0 to.0 first.high) in
@@ -158,7 +170,7 @@ passes_all s d mid e c from to entries reply told halves passes may needs none s
     let w : Course = given.x in
     let at : WorksAt (accepted_of d.commands.items c) given.x = works_at (accepted_of d.commands.items c) given.x given.is in
     let stands : StandsAt s c given.x = stands_in s d c given.x may.fits given.is in
-    let pass : NeedsPass w.plan w.step from to = needs_pass w.plan w.step from to given.gives in
+    let pass : NeedsPass w.plan w.step from to = needs_pass w.plan w.moved w.step from to given.gives in
     let y : syncing.Syncing = pass.y in
     let done : syncing.Syncing = record pass.y { at = to.0 } in
     let from_is : from.0 ≡ pass.y.at = ap (λ (n : Lba). n.0) pass.from_is in
@@ -172,7 +184,7 @@ passes_all s d mid e c from to entries reply told halves passes may needs none s
     (next-passed pass.y from to from_is (omega (arith, to_is, pass.left)) (omega (arith, to_is))) (omega (arith, to_is, range)) clean in
     let over : reply ≡ Some good =
     reply_is w given.is ∙ (ap (λ (x : Course). ending_of (after x (NextDirty None)))
-    (λ i. record { settings = w.settings; gives = w.gives; plan = pass.plan_is i; step = pass.step_is i; recovered = w.recovered })
+    (λ i. record { settings = w.settings; gives = w.gives; moved = w.moved; plan = pass.plan_is i; step = pass.step_is i; recovered = w.recovered })
     ∙ ap (λ (t : Bool). cond t None (Some good)) (not_below pass.y.end)) in
     let closed = closes good over in
     let stops : Stops d e c good (Passed c from to ∷ []) entries told =

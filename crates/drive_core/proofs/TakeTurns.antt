@@ -33,7 +33,7 @@ use Rattle.command_engine.specs.declared.answer.Answer.{Answer}
 use Rattle.command_engine.specs.declared.need.Need.{Need}
 use Rattle.command_engine.specs.declared.need.Need.TheVariants as need
 use Rattle.command_engine.specs.declared.step.Step.{Step}
-use Rattle.command_engine.specs.declared.step.Step.TheVariants.{Trying, Hardening, Faulted}
+use Rattle.command_engine.specs.declared.step.Step.TheVariants.{Trying, Hardening}
 use Rattle.command_engine.specs.Course.{Course}
 use Rattle.command_engine.specs.Need.{need_by, need_at_read, taking}
 use Rattle.command_engine.specs.Ending.{ending_of}
@@ -64,6 +64,7 @@ use Rattle.drive_core.specs.Taking.{IsTaken, search_for, value_got, got_entries,
 use Rattle.drive_core.proofs.Closing.{Goes, Stops, present_after}
 use Rattle.drive_core.proofs.Found.{OwnPlaces, whatever, sought}
 use Rattle.drive_core.proofs.ReadTurns.{course}
+use Rattle.drive_core.specs.Served.{is_served_plan}
 
 -- a read that needs the value of a block
 pub record NeedsValue (plan : Plan) (step : Step) (b : Lba) (medium : Bool) (stage : Stage) : Type 0 where
@@ -95,7 +96,7 @@ by_step : (r : reading.Reading) (step : Step) (b : Lba) (medium : Bool) (stage :
 by_step r step b medium stage false left is = absurd (cc)
 by_step r (Trying p) b medium stage true left is = by_progress r p (next_stage p) b medium stage refl (ltb-true r.at r.end left) is
 by_step r Hardening b medium stage true left is = absurd (cc)
-by_step r Faulted b medium stage true left is = absurd (cc)
+by_step r other b medium stage true left is = absurd (cc)
 
 no_write : (o t : Bool) (a b : Lba) (medium : Bool) (stage : Stage) → cond o (cond t (need.PutThrough a) (need.Put a)) need.Nothing ≡ need.Take b medium stage → ⊥
 no_write true true a b medium stage is = cc
@@ -111,21 +112,21 @@ no_other : (o : Bool) (x : Need) (b : Lba) (medium : Bool) (stage : Stage) → c
 no_other true x b medium stage is other = subst IsOther is other
 no_other false x b medium stage is other = cc
 
-pub needs_value : (plan : Plan) (step : Step) (b : Lba) (medium : Bool) (stage : Stage) → need_by plan step ≡ need.Take b medium stage
+pub needs_value : (plan : Plan) (moved : ℕ) (step : Step) (b : Lba) (medium : Bool) (stage : Stage) → is_served_plan plan ≡ true → need_by plan moved step ≡ need.Take b medium stage
     → NeedsValue plan step b medium stage
-needs_value (Reading r) step b medium stage is = by_step r step b medium stage (ltb r.at r.end) refl is
-needs_value (Ending reply) step b medium stage is = absurd (cc)
-needs_value (Unread at) step b medium stage is = absurd (cc)
-needs_value (Answering bytes reply) step b medium stage is = absurd (cc)
-needs_value Changing step b medium stage is = absurd (cc)
-needs_value (Writing w) (Trying p) b medium stage is = absurd (no_write (ltb w.at w.end) w.through (lba w.at) b medium stage is)
-needs_value (Writing w) Hardening b medium stage is = absurd (no_other (ltb w.at w.end) need.Nothing b medium stage is tt)
-needs_value (Writing w) Faulted b medium stage is = absurd (no_other (ltb w.at w.end) need.Nothing b medium stage is tt)
-needs_value (Syncing y) (Trying p) b medium stage is = absurd (no_other (ltb y.at y.end) (need.Pass (lba y.at) (lba y.end)) b medium stage is tt)
-needs_value (Syncing y) Hardening b medium stage is = absurd (no_other (ltb y.at y.end) (need.Harden (lba y.at)) b medium stage is tt)
-needs_value (Syncing y) Faulted b medium stage is = absurd (no_other (ltb y.at y.end) need.Nothing b medium stage is tt)
-needs_value (Moving x) step b medium stage is = absurd (cc)
-needs_value Over step b medium stage is = absurd (cc)
+needs_value (Reading r) moved step b medium stage served is = by_step r step b medium stage (ltb r.at r.end) refl is
+needs_value (Ending reply) moved step b medium stage served is = absurd (cc)
+needs_value (Unread at) moved step b medium stage served is = absurd (cc)
+needs_value (Answering bytes reply) moved step b medium stage served is = absurd (cc)
+needs_value Changing moved step b medium stage served is = absurd (cc)
+needs_value (Writing w) moved (Trying p) b medium stage served is = absurd (no_write (ltb w.at w.end) w.through (lba w.at) b medium stage is)
+needs_value (Writing w) moved Hardening b medium stage served is = absurd (no_other (ltb w.at w.end) need.Nothing b medium stage is tt)
+needs_value (Writing w) moved other b medium stage served is = absurd (no_other (ltb w.at w.end) need.Nothing b medium stage is tt)
+needs_value (Syncing y) moved (Trying p) b medium stage served is = absurd (no_other (ltb y.at y.end) (need.Pass (lba y.at) (lba y.end)) b medium stage is tt)
+needs_value (Syncing y) moved Hardening b medium stage served is = absurd (no_other (ltb y.at y.end) (need.Harden (lba y.at)) b medium stage is tt)
+needs_value (Syncing y) moved other b medium stage served is = absurd (no_other (ltb y.at y.end) need.Nothing b medium stage is tt)
+needs_value (Moving x) moved step b medium stage served is = absurd (cc)
+needs_value Over moved step b medium stage served is = absurd (cc)
 
 -- the parts of what a map over an option gives
 pub record GivenBy {X Y : Type 0} (f : X → Y) (o : Option X) (y : Y) : Type 0 where
@@ -202,17 +203,17 @@ takes s d e c q answer reply entries told may errand is present once own keeps l
     let w : Course = given.x in
     let at : WorksAt (accepted_of d.commands.items c) given.x = works_at (accepted_of d.commands.items c) given.x given.is in
     let stands : StandsAt s c given.x = stands_in s d c given.x may.fits given.is in
-    let value : NeedsValue w.plan w.step q.b q.medium q.stage = needs_value w.plan w.step q.b q.medium q.stage (ap (λ (x : Errand). x.need) given.gives) in
+    let value : NeedsValue w.plan w.step q.b q.medium q.stage = needs_value w.plan w.moved w.step q.b q.medium q.stage stands.working.served (ap (λ (x : Errand). x.need) given.gives) in
     let settings : w.settings ≡ q.settings = ap (λ (x : Errand). x.settings) given.gives in
     let gives : q.gives ≡ w.gives = sym (ap (λ (x : Errand). x.gives) given.gives) in
-    let w_is : w ≡ course s c stands.m q.settings w.gives value.r value.p w.recovered q.stage =
-    λ i. record { settings = settings i; gives = w.gives; plan = value.plan_is i; step = value.step_is i; recovered = w.recovered } in
-    let q_is : q ≡ sought s c stands.m at.a q.settings w.gives value.r value.p w.recovered q.stage =
+    let w_is : w ≡ course s c stands.m q.settings w.gives w.moved value.r value.p w.recovered q.stage =
+    λ i. record { settings = settings i; gives = w.gives; moved = w.moved; plan = value.plan_is i; step = value.step_is i; recovered = w.recovered } in
+    let q_is : q ≡ sought s c stands.m at.a q.settings w.gives w.moved value.r value.p w.recovered q.stage =
     λ i. record { b = value.b_is i; medium = value.medium_is i; stage = q.stage; settings = q.settings; gives = gives i } in
     let needs : needed_block s c ≡ Some value.r.at =
     ap (option_and_then (needed_by_plan s.hist.blocks)) (owed_at s c w stands ∙ ap Some value.plan_is)
     ∙ ap (λ (b : Bool). cond b (Some value.r.at) None) (lt-ltb value.r.at value.r.end value.left) in
-    whatever s c stands.m at.a q.settings w.gives value.r value.p w.recovered q.stage d e answer entries reply told
+    whatever s c stands.m at.a q.settings w.gives w.moved value.r value.p w.recovered q.stage d e answer entries reply told
     (record {
       fits = may.fits;
       is_in = stands.is_in;
@@ -254,7 +255,7 @@ read_at s d c q fits errand =
       a_is = at.is;
       works = at.works;
       stands = stands_in s d c given.x fits given.is;
-      value = needs_value given.x.plan given.x.step q.b q.medium q.stage (ap (λ (x : Errand). x.need) given.gives);
+      value = needs_value given.x.plan given.x.moved given.x.step q.b q.medium q.stage (stands_in s d c given.x fits given.is).working.served (ap (λ (x : Errand). x.need) given.gives);
     }
 
 none_of : (o : Option (List ℕ)) → option_map Data o ≡ None → o ≡ None
@@ -378,9 +379,9 @@ put_next : (b : Lba) (t : Bool) → IsServedNeed (cond t (need.PutThrough b) (ne
 put_next b true = tt
 put_next b false = tt
 
-needs_by : (v : View) (plan : Plan) (step : Step) → IsAtBlock v plan step → IsServedNeed (need_by plan step)
-needs_by v plan step at =
-    at_block v (λ plan step. IsServedNeed (need_by plan step))
+needs_by : (v : View) (moved : ℕ) (plan : Plan) (step : Step) → IsAtBlock v plan step → IsServedNeed (need_by plan moved step)
+needs_by v moved plan step at =
+    at_block v (λ plan step. IsServedNeed (need_by plan moved step))
     (λ r p trying. subst (λ (b : Bool). IsServedNeed (cond b (taking r (next_stage p)) need.Nothing)) (sym (lt-ltb r.at r.end trying.left))
     (value_next r (next_stage p) trying.next))
     (λ w p left. subst (λ (b : Bool). IsServedNeed (cond b (cond w.through (need.PutThrough (lba w.at)) (need.Put (lba w.at))) need.Nothing)) (sym (lt-ltb w.at w.end left.1))
@@ -391,4 +392,4 @@ pub needs_what_is_served : (s : Scene) (d : Server) (c : ℕ) (e : Errand) → F
 needs_what_is_served s d c e fits errand =
     let given : GivenBy errand_of (under_way d.commands.items c) e = given_by errand_of (under_way d.commands.items c) e errand in
     let stands : StandsAt s c given.x = stands_in s d c given.x fits given.is in
-    subst IsServedNeed (ap (λ (x : Errand). x.need) given.gives) (needs_by (view s c) given.x.plan given.x.step stands.working.at_block)
+    subst IsServedNeed (ap (λ (x : Errand). x.need) given.gives) (needs_by (view s c) given.x.moved given.x.plan given.x.step stands.working.at_block)

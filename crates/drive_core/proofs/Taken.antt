@@ -136,18 +136,18 @@ pub record IsReadTurn (s : Scene) (d e : Server) (c : ℕ) (m : Member) (w : Cou
   pub cached : (t : Scene) → IsGotOnly s t → t.ops ≡ s.ops ++ ops → t.since ≡ s.since ++ ops → IsCached t e.store.cache
   pub laws : ReadLaws
 
-module _ (s : Scene) (c : ℕ) (m : Member) (settings : Settings) (gives : Bool) (r : reading.Reading) (p : Progress) (rec : Option Recovery) (stage : Stage) where
+module _ (s : Scene) (c : ℕ) (m : Member) (settings : Settings) (gives : Bool) (moved : ℕ) (r : reading.Reading) (p : Progress) (rec : Option Recovery) (stage : Stage) where
   -- the command gets data
   pub got_data : (d e : Server) (a : Accepted) (bytes : List ℕ) (ops : List Op) (entries : List Entry) (reply : Option Reply) (told : Option told_end.Ended)
-      → IsReadTurn s d e c m (course s c m settings gives r p rec stage) (lba r.at) ops → next_stage p ≡ Some stage → r.at < r.end
+      → IsReadTurn s d e c m (course s c m settings gives moved r p rec stage) (lba r.at) ops → next_stage p ≡ Some stage → r.at < r.end
       → (r.through && is_dirty (s.hist.blocks r.at)) ≡ false
       → (strays (s.ops ++ ops) ≡ 0 → may_get (s.hist.blocks r.at) (Data bytes) ≡ true)
       → (strays (s.ops ++ ops) ≡ 0 → is_dirty (s.hist.blocks r.at) ≡ false → Data bytes ≡ stored s.map s.ops (lba r.at))
       → IsGot s (s.windows c ++ ops) (s.settings c) (steps.begun s.hist (Work c)) c (lba r.at) (Data bytes)
       → (last_found (s.windows c ++ ops) ≡ Some stage) ⊎ ((last_found (s.windows c ++ ops) ≡ None) × (stage.number ≡ 0))
-      → IsCourse (after (course s c m settings gives r p rec stage) (Got (Data bytes)))
-      → reply ≡ ending_of (after (course s c m settings gives r p rec stage) (Got (Data bytes)))
-      → (reply ≡ None → Goes d e c (record a { work = Some (after (course s c m settings gives r p rec stage) (Got (Data bytes))) }) (Get c (lba r.at) (Data bytes) ∷ []) entries told)
+      → IsCourse (after (course s c m settings gives moved r p rec stage) (Got (Data bytes)))
+      → reply ≡ ending_of (after (course s c m settings gives moved r p rec stage) (Got (Data bytes)))
+      → (reply ≡ None → Goes d e c (record a { work = Some (after (course s c m settings gives moved r p rec stage) (Got (Data bytes))) }) (Get c (lba r.at) (Data bytes) ∷ []) entries told)
       → ((x : Reply) → reply ≡ Some x → Stops d e c x (Get c (lba r.at) (Data bytes) ∷ []) entries told)
       → Moves (Work c) s d e entries told
   got_data d e a bytes ops entries reply told turn next_is left clean allows is shown by course_is reply_is goes stops =
@@ -160,41 +160,41 @@ module _ (s : Scene) (c : ℕ) (m : Member) (settings : Settings) (gives : Bool)
       (λ (more : ltb (r.at + 1) r.end ≡ true).
       let t : Scene = after_half s c ops (Get c (lba r.at) (Data bytes) ∷ []) in
       let on : reply ≡ None = reply_is
-      ∙ ap (λ (x : Bool). cond x None (Some (report_of r.reports (after (course s c m settings gives r p rec stage) (Got (Data bytes))).recovered))) more in
-      let got : Goes d e c (record a { work = Some (after (course s c m settings gives r p rec stage) (Got (Data bytes))) }) (Get c (lba r.at) (Data bytes) ∷ []) entries told = goes on in
+      ∙ ap (λ (x : Bool). cond x None (Some (report_of r.reports (after (course s c m settings gives moved r p rec stage) (Got (Data bytes))).recovered))) more in
+      let got : Goes d e c (record a { work = Some (after (course s c m settings gives moved r p rec stage) (Got (Data bytes))) }) (Get c (lba r.at) (Data bytes) ∷ []) entries told = goes on in
       moves_on s c ops (Get c (lba r.at) (Data bytes) ∷ []) entries (got_state s c (lba r.at) (Data bytes)) (Reading (record r { at = r.at + 1; hardened = false })) d e
-      (record a { work = Some (after (course s c m settings gives r p rec stage) (Got (Data bytes))) }) told half
+      (record a { work = Some (after (course s c m settings gives moved r p rec stage) (Got (Data bytes))) }) told half
       (turn.laws.halves.on s c ops (Get c (lba r.at) (Data bytes) ∷ []) (got_state s c (lba r.at) (Data bytes)) (Reading (record r { at = r.at + 1; hardened = false })) (room_of s c d turn.fits) turn.present half (or_right (not (list_any is_try ops)) true refl) refl
       (or_right (not (eqb (length ops) 0)) true refl))
       (fits_on s c ops (Get c (lba r.at) (Data bytes) ∷ []) (got_state s c (lba r.at) (Data bytes)) (Reading (record r { at = r.at + 1; hardened = false })) d e
-      (record a { work = Some (after (course s c m settings gives r p rec stage) (Got (Data bytes))) }) half turn.fits got.set got.arrived got.known got.replaces
+      (record a { work = Some (after (course s c m settings gives moved r p rec stage) (Got (Data bytes))) }) half turn.fits got.set got.arrived got.known got.replaces
       (turn.has t refl refl)
       (turn.cached t (got_only s t (lba r.at) (Data bytes) ops (Get c (lba r.at) (Data bytes) ∷ []) turn.quiet turn.present refl refl refl refl refl refl refl) refl refl)
-      (staged-got s c m settings gives r p rec stage a bytes ops turn.is_in turn.working next_is left clean by (ltb-true (r.at + 1) r.end more))
+      (staged-got s c m settings gives moved r p rec stage a bytes ops turn.is_in turn.working next_is left clean by (ltb-true (r.at + 1) r.end more))
       (holds_none s c (t.windows c) (Reading (record r { at = r.at + 1; hardened = false }))
-      (ap (λ (w : List Op). held_by_plan w (Reading (record r { at = r.at + 1; hardened = false }))) (window-got s c m settings gives r p rec stage (Data bytes) ops))))
+      (ap (λ (w : List Op). held_by_plan w (Reading (record r { at = r.at + 1; hardened = false }))) (window-got s c m settings gives moved r p rec stage (Data bytes) ops))))
       got turn.added refl)
       (λ (last : ltb (r.at + 1) r.end ≡ false).
-      let x : Reply = report_of r.reports (after (course s c m settings gives r p rec stage) (Got (Data bytes))).recovered in
-      let over : reply ≡ Some (report_of r.reports (after (course s c m settings gives r p rec stage) (Got (Data bytes))).recovered) = reply_is
-      ∙ ap (λ (y : Bool). cond y None (Some (report_of r.reports (after (course s c m settings gives r p rec stage) (Got (Data bytes))).recovered))) last in
+      let x : Reply = report_of r.reports (after (course s c m settings gives moved r p rec stage) (Got (Data bytes))).recovered in
+      let over : reply ≡ Some (report_of r.reports (after (course s c m settings gives moved r p rec stage) (Got (Data bytes))).recovered) = reply_is
+      ∙ ap (λ (y : Bool). cond y None (Some (report_of r.reports (after (course s c m settings gives moved r p rec stage) (Got (Data bytes))).recovered))) last in
       let t : Scene = after_end s c ops (Get c (lba r.at) (Data bytes) ∷ []) x in
-      let ended : Stops d e c (report_of r.reports (after (course s c m settings gives r p rec stage) (Got (Data bytes))).recovered) (Get c (lba r.at) (Data bytes) ∷ []) entries told = stops _ over in
-      let own : IsOwnRecovery ((got_state s c (lba r.at) (Data bytes)).duties c).asks (after (course s c m settings gives r p rec stage) (Got (Data bytes))).recovered =
-      subst (λ q. IsOwnRecovery q (after (course s c m settings gives r p rec stage) (Got (Data bytes))).recovered) (sym half.quiet.asks)
-      (own-recovered s c m settings gives r p rec stage bytes (s.hist.duties c).asks left next_is turn.working.own_range turn.working.own_recovery) in
+      let ended : Stops d e c (report_of r.reports (after (course s c m settings gives moved r p rec stage) (Got (Data bytes))).recovered) (Get c (lba r.at) (Data bytes) ∷ []) entries told = stops _ over in
+      let own : IsOwnRecovery ((got_state s c (lba r.at) (Data bytes)).duties c).asks (after (course s c m settings gives moved r p rec stage) (Got (Data bytes))).recovered =
+      subst (λ q. IsOwnRecovery q (after (course s c m settings gives moved r p rec stage) (Got (Data bytes))).recovered) (sym half.quiet.asks)
+      (own-recovered s c m settings gives moved r p rec stage bytes (s.hist.duties c).asks left next_is turn.working.own_range turn.working.own_recovery) in
       let told_so : ends_as_told (Some (Reading (record r { at = r.at + 1; hardened = false }))) ((got_state s c (lba r.at) (Data bytes)).duties c)
-      (report_of r.reports (after (course s c m settings gives r p rec stage) (Got (Data bytes))).recovered) ≡ true =
-      told_report (record r { at = r.at + 1; hardened = false }) r.reports (after (course s c m settings gives r p rec stage) (Got (Data bytes))).recovered
+      (report_of r.reports (after (course s c m settings gives moved r p rec stage) (Got (Data bytes))).recovered) ≡ true =
+      told_report (record r { at = r.at + 1; hardened = false }) r.reports (after (course s c m settings gives moved r p rec stage) (Got (Data bytes))).recovered
       ((got_state s c (lba r.at) (Data bytes)).duties c) own in
-      let shown_so : IsEndShown s (beat (Work c) (Get c (lba r.at) (Data bytes) ∷ Ended c (report_of r.reports (after (course s c m settings gives r p rec stage) (Got (Data bytes))).recovered) ∷ []) ops) c
-      (Some (Reading (record r { at = r.at + 1; hardened = false }))) (report_of r.reports (after (course s c m settings gives r p rec stage) (Got (Data bytes))).recovered) = (
-        λ at_end. ap (report_of r.reports) (sym (recovered-is s c m settings gives r p rec stage bytes ops next_is turn.working.recovered by)),
+      let shown_so : IsEndShown s (beat (Work c) (Get c (lba r.at) (Data bytes) ∷ Ended c (report_of r.reports (after (course s c m settings gives moved r p rec stage) (Got (Data bytes))).recovered) ∷ []) ops) c
+      (Some (Reading (record r { at = r.at + 1; hardened = false }))) (report_of r.reports (after (course s c m settings gives moved r p rec stage) (Got (Data bytes))).recovered) = (
+        λ at_end. ap (report_of r.reports) (sym (recovered-is s c m settings gives moved r p rec stage bytes ops next_is turn.working.recovered by)),
         λ more. absurd (omega (arith, ltb-false (r.at + 1) r.end last)),
       ) in
       moves_end s c ops (Get c (lba r.at) (Data bytes) ∷ []) entries (got_state s c (lba r.at) (Data bytes)) (Reading (record r { at = r.at + 1; hardened = false })) d e x told half
       (turn.laws.halves.over s c ops (Get c (lba r.at) (Data bytes) ∷ []) (got_state s c (lba r.at) (Data bytes)) (Reading (record r { at = r.at + 1; hardened = false })) Over x (room_of s c d turn.fits) turn.present half (or_right (not (list_any is_try ops)) true refl)
-      (may_end (after (course s c m settings gives r p rec stage) (Got (Data bytes))) x (names_dirty (got_state s c (lba r.at) (Data bytes)) x) turn.laws.plan course_is
+      (may_end (after (course s c m settings gives moved r p rec stage) (Got (Data bytes))) x (names_dirty (got_state s c (lba r.at) (Data bytes)) x) turn.laws.plan course_is
       (sym reply_is ∙ over) (λ never. absurd (cc)) refl)
       told_so shown_so)
       (fits_end s c ops (Get c (lba r.at) (Data bytes) ∷ []) (got_state s c (lba r.at) (Data bytes)) (Reading (record r { at = r.at + 1; hardened = false })) x d e half turn.fits ended.left
@@ -205,31 +205,31 @@ module _ (s : Scene) (c : ℕ) (m : Member) (settings : Settings) (gives : Bool)
 
   -- the block is lost
   pub got_lost : (d e : Server) (answer : Answer) (ops : List Op) (entries : List Entry) (reply : Option Reply) (told : Option told_end.Ended)
-      → IsReadTurn s d e c m (course s c m settings gives r p rec stage) (lba r.at) ops → r.at < r.end → (r.through && is_dirty (s.hist.blocks r.at)) ≡ false
+      → IsReadTurn s d e c m (course s c m settings gives moved r p rec stage) (lba r.at) ops → r.at < r.end → (r.through && is_dirty (s.hist.blocks r.at)) ≡ false
       → (strays (s.ops ++ ops) ≡ 0 → may_get (s.hist.blocks r.at) Lost ≡ true)
       → IsGot s (s.windows c ++ ops) (s.settings c) (steps.begun s.hist (Work c)) c (lba r.at) Lost
-      → IsCourse (after (course s c m settings gives r p rec stage) answer)
-      → (after (course s c m settings gives r p rec stage) answer).plan ≡ Unread r.at
-      → reply ≡ ending_of (after (course s c m settings gives r p rec stage) answer)
+      → IsCourse (after (course s c m settings gives moved r p rec stage) answer)
+      → (after (course s c m settings gives moved r p rec stage) answer).plan ≡ Unread r.at
+      → reply ≡ ending_of (after (course s c m settings gives moved r p rec stage) answer)
       → ((x : Reply) → reply ≡ Some x → Stops d e c x (Get c (lba r.at) Lost ∷ []) entries told)
       → Moves (Work c) s d e entries told
   got_lost d e answer ops entries reply told turn left clean allows shown course_is plan_is reply_is stops =
-      let next_course : Course = after (course s c m settings gives r p rec stage) answer in
+      let next_course : Course = after (course s c m settings gives moved r p rec stage) answer in
       let x : Reply = unrecovered_read r.at in
       let half : Half s c ops (Get c (lba r.at) Lost ∷ []) (got_state s c (lba r.at) Lost) (Unread r.at) =
       turn.laws.gets s c m (Reading r) (Unread r.at) (lba r.at) Lost ops turn.is_in turn.working.owes turn.below
       turn.fits.store.present turn.fits.stands turn.free turn.quiet (next-lost r (is_dirty (s.hist.blocks r.at)) left clean) allows
       (λ none ys same undirty. absurd (cc)) shown in
       let over : reply ≡ Some (unrecovered_read r.at) = reply_is
-      ∙ ap (λ (q : Plan). ending_by q (after (course s c m settings gives r p rec stage) answer).step (after (course s c m settings gives r p rec stage) answer).recovered) plan_is in
+      ∙ ap (λ (q : Plan). ending_by q (after (course s c m settings gives moved r p rec stage) answer).moved (after (course s c m settings gives moved r p rec stage) answer).step (after (course s c m settings gives moved r p rec stage) answer).recovered) plan_is in
       let t : Scene = after_end s c ops (Get c (lba r.at) Lost ∷ []) (unrecovered_read r.at) in
       let ended : Stops d e c (unrecovered_read r.at) (Get c (lba r.at) Lost ∷ []) entries told = stops (unrecovered_read r.at) over in
       let never_dirty : (q : Plan) (step : Step) (dirty : Bool) → q ≡ Unread r.at → stays_dirty q step ≡ true → dirty ≡ true =
       λ q step dirty is stays. let no : stays_dirty (Unread r.at) step ≡ true = subst (λ (z : Plan). stays_dirty z step ≡ true) is stays in absurd (cc) in
       let may : next (Unread r.at) (deed.Ended (unrecovered_read r.at) (names_dirty (got_state s c (lba r.at) Lost) (unrecovered_read r.at))) ≡ Some Over =
       subst (λ (q : Plan). next q (deed.Ended (unrecovered_read r.at) (names_dirty (got_state s c (lba r.at) Lost) (unrecovered_read r.at))) ≡ Some Over) plan_is
-      (may_end (after (course s c m settings gives r p rec stage) answer) (unrecovered_read r.at) (names_dirty (got_state s c (lba r.at) Lost) (unrecovered_read r.at)) turn.laws.plan course_is
-      (sym reply_is ∙ over) (never_dirty (after (course s c m settings gives r p rec stage) answer).plan (after (course s c m settings gives r p rec stage) answer).step _ plan_is)
+      (may_end (after (course s c m settings gives moved r p rec stage) answer) (unrecovered_read r.at) (names_dirty (got_state s c (lba r.at) Lost) (unrecovered_read r.at)) turn.laws.plan course_is
+      (sym reply_is ∙ over) (never_dirty (after (course s c m settings gives moved r p rec stage) answer).plan (after (course s c m settings gives moved r p rec stage) answer).step _ plan_is)
       (subst (λ (q : Plan). with_page [] q ≡ q) (sym plan_is) refl)) in
       moves_end s c ops (Get c (lba r.at) Lost ∷ []) entries (got_state s c (lba r.at) Lost) (Unread r.at) d e (unrecovered_read r.at) told half
       (turn.laws.halves.over s c ops (Get c (lba r.at) Lost ∷ []) (got_state s c (lba r.at) Lost) (Unread r.at) Over (unrecovered_read r.at) (room_of s c d turn.fits) turn.present half (or_right (not (list_any is_try ops)) true refl) may refl tt)
@@ -240,10 +240,10 @@ module _ (s : Scene) (c : ℕ) (m : Member) (settings : Settings) (gives : Bool)
 
   -- the stage found nothing, and another is left
   pub missed : (d e : Server) (a : Accepted) (before : ℕ) (entries : List Entry) (reply : Option Reply) (told : Option told_end.Ended)
-      → IsReadTurn s d e c m (course s c m settings gives r p rec stage) (lba r.at) (try_of before (place_of s.map (lba r.at)) stage None)
+      → IsReadTurn s d e c m (course s c m settings gives moved r p rec stage) (lba r.at) (try_of before (place_of s.map (lba r.at)) stage None)
       → next_stage p ≡ Some stage → r.at < r.end → is_dirty (s.hist.blocks r.at) ≡ false → is_none (next_stage (answered p false)) ≡ false
-      → reply ≡ ending_of (after (course s c m settings gives r p rec stage) Missed)
-      → (reply ≡ None → Goes d e c (record a { work = Some (after (course s c m settings gives r p rec stage) Missed) }) [] entries told)
+      → reply ≡ ending_of (after (course s c m settings gives moved r p rec stage) Missed)
+      → (reply ≡ None → Goes d e c (record a { work = Some (after (course s c m settings gives moved r p rec stage) Missed) }) [] entries told)
       → Moves (Work c) s d e entries told
   missed d e a before entries reply told turn next_is left undirty one_left_so reply_is goes =
       let ops : List Op = try_of before (place_of s.map (lba r.at)) stage None in
@@ -251,7 +251,7 @@ module _ (s : Scene) (c : ℕ) (m : Member) (settings : Settings) (gives : Bool)
       turn.laws.tries s c m (Reading r) (lba r.at) (try_of before (place_of s.map (lba r.at)) stage None) turn.is_in turn.working.owes
       turn.fits.store.present turn.fits.stands turn.free turn.quiet in
       let on : reply ≡ None = reply_is
-      ∙ (ap (λ (b : Bool). ending_by (cond b (Unread r.at) (Reading r)) (cond b (Trying (begun settings.retry)) (Trying (answered p false))) rec) one_left_so
+      ∙ (ap (λ (b : Bool). ending_by (cond b (Unread r.at) (Reading r)) moved (cond b (Trying (begun settings.retry)) (Trying (answered p false))) rec) one_left_so
       ∙ ap (λ (b : Bool). cond b None (Some (report_of r.reports rec))) (lt-ltb r.at r.end left)) in
       let trying : IsTrying (view s c) r p = turn.working.at_block in
       let here = next_stage-at p stage next_is in
@@ -266,12 +266,12 @@ module _ (s : Scene) (c : ℕ) (m : Member) (settings : Settings) (gives : Bool)
             (failed-next (s.windows c) before (place_of s.map (lba r.at)) p.retry p.failed stage here.1 trying.failed),
       ) in
       let t : Scene = after_half s c (try_of before (place_of s.map (lba r.at)) stage None) [] in
-      let got : Goes d e c (record a { work = Some (after (course s c m settings gives r p rec stage) Missed) }) [] entries told = goes on in
-      moves_on s c ops [] entries (steps.begun s.hist (Work c)) (Reading r) d e (record a { work = Some (after (course s c m settings gives r p rec stage) Missed) }) told half
+      let got : Goes d e c (record a { work = Some (after (course s c m settings gives moved r p rec stage) Missed) }) [] entries told = goes on in
+      moves_on s c ops [] entries (steps.begun s.hist (Work c)) (Reading r) d e (record a { work = Some (after (course s c m settings gives moved r p rec stage) Missed) }) told half
       (turn.laws.halves.on s c ops [] (steps.begun s.hist (Work c)) (Reading r) (room_of s c d turn.fits) turn.present half next_try refl refl)
-      (fits_on s c ops [] (steps.begun s.hist (Work c)) (Reading r) d e (record a { work = Some (after (course s c m settings gives r p rec stage) Missed) }) half turn.fits
+      (fits_on s c ops [] (steps.begun s.hist (Work c)) (Reading r) d e (record a { work = Some (after (course s c m settings gives moved r p rec stage) Missed) }) half turn.fits
       got.set got.arrived got.known got.replaces (turn.has t refl refl)
       (turn.cached t (tried_only s t (lba r.at) ops turn.quiet turn.present refl refl refl refl refl refl refl) refl refl)
-      (staged-none s c m settings gives r p rec stage a before turn.is_in turn.working next_is undirty one_left_so)
+      (staged-none s c m settings gives moved r p rec stage a before turn.is_in turn.working next_is undirty one_left_so)
       (holds_next s c (t.windows c) r turn.free))
       got turn.added refl

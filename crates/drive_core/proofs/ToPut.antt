@@ -23,7 +23,7 @@ pub has_next : (commands : List Accepted) (c : ℕ) (e : Errand) (through : Bool
 has_next commands c e through b errand is =
     let given : GivenBy errand_of (under_way commands c) e = given_by errand_of (under_way commands c) e errand in
     let need : need_of given.x ≡ put_need through b = ap (λ (y : Errand). y.need) given.gives ∙ is in
-    let write : IsWriteNeed given.x.plan given.x.step b through = write_need given.x.plan given.x.step through b need in
+    let write : IsWriteNeed given.x.plan given.x.step b through = write_need given.x.plan given.x.moved given.x.step through b need in
     let next : puts_next given.x.plan ≡ true = ap puts_next write.plan_is ∙ lt-ltb write.w.at write.w.end write.left in
     subst (λ (o : Option Course). IsSomeAnd o (λ w. IsTrue (puts_next w.plan))) (sym given.is) next
 

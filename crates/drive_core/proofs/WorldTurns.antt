@@ -5,6 +5,7 @@ use Rattle.std.proofs.lemmas.List.Sums.{fold-append}
 use Rattle.platter_model.specs.declared.damage.Damage.{Damage}
 use Rattle.platter_model.specs.declared.op.Op.{Op}
 use Rattle.platter_model.specs.declared.op.Op.TheVariants.{Damaged}
+use Rattle.platter_model.specs.declared.world.World.{World}
 use Rattle.platter_model.specs.declared.world.World.TheVariants as world
 use Rattle.platter_model.specs.State.{with_op}
 use Rattle.platter_model.specs.Sector.{faulty_after}
@@ -22,7 +23,8 @@ use Rattle.block_machine.specs.Scan.{Scan, minutes_at_most, scan_after}
 use Rattle.history_replay.specs.declared.known.Known.{Known}
 use Rattle.drive_core.specs.declared.accepted.Accepted.{Accepted}
 use Rattle.drive_core.specs.declared.server.Server.{Server}
-use Rattle.drive_scene.specs.Scene.{Scene, scene_after, beat}
+use Rattle.drive_scene.specs.Scene.{Scene, scene_after, background_after, beat}
+use Rattle.drive_scene.proofs.DestageTurns.{quiet_back}
 use Rattle.drive_core.specs.Accepting.{accepted_of}
 use Rattle.drive_scene.specs.GoodTurn.{IsStood, IsAllowed}
 use Rattle.drive_scene.specs.Present.{IsPresentMap}
@@ -46,29 +48,35 @@ may_happen s d x fits sectors served =
     (omega (arith, served.0), served.1)
 
 -- the scene after a turn of the world: there are more operations and entries, and the scan went on
-abbrev with_world : Scene → List Op → List Entry → Scan → Scene
-with_world s ops entries scan =
-    record s { ops = s.ops ++ ops; hist = record s.hist { scan = scan }; since = s.since ++ ops; entries = s.entries ++ entries }
+abbrev with_world : Scene → World → List Op → List Entry → Scan → Scene
+with_world s w ops entries scan = record s {
+  ops = s.ops ++ ops;
+  hist = record s.hist { scan = scan };
+  since = s.since ++ ops;
+  entries = s.entries ++ entries;
+  back = background_after s (beat (label.World w) entries ops);
+}
 
 -- no command is touched, so the parts beside the store fit as before
-untouched : (s : Scene) (d e : Server) (ops : List Op) (entries : List Entry) (scan : Scan) → Fits s d → e.set ≡ d.set → e.commands.items ≡ d.commands.items → e.arrived ≡ d.arrived
-    → HasOps (with_world s ops entries scan) e.store → IsCached (with_world s ops entries scan) e.store.cache → KnowsHistory (with_world s ops entries scan) e.known
-    → IsStood s.map (s.ops ++ ops) s.hist.blocks → Fits (with_world s ops entries scan) e
-untouched s d e ops entries scan fits set_is commands_is arrived_is store cached known stands = record {
+untouched : (s : Scene) (d e : Server) (w : World) (ops : List Op) (entries : List Entry) (scan : Scan) → Fits s d → e.set ≡ d.set → e.commands.items ≡ d.commands.items → e.arrived ≡ d.arrived
+    → HasOps (with_world s w ops entries scan) e.store → IsCached (with_world s w ops entries scan) e.store.cache → KnowsHistory (with_world s w ops entries scan) e.known
+    → IsStood s.map (s.ops ++ ops) s.hist.blocks → Fits (with_world s w ops entries scan) e
+untouched s d e w ops entries scan fits set_is commands_is arrived_is store cached known stands = record {
   size = fits.size;
   store = store;
   cached = cached;
   known = known;
   tasks = record { set = set_is ∙ fits.tasks.set; arrived = arrived_is ∙ fits.tasks.arrived; came = fits.tasks.came };
-  staged = λ q. staged-alike s (with_world s ops entries scan) q (accepted_of d.commands.items q) (accepted_of e.commands.items q)
+  staged = λ q. staged-alike s (with_world s w ops entries scan) q (accepted_of d.commands.items q) (accepted_of e.commands.items q)
       (record { size = refl; map = refl; member = refl; duty = refl; window = refl; settings = refl; recovered = refl; dirty = λ n holds. refl })
       (ap (λ (xs : List Accepted). accepted_of xs q) commands_is) (fits.staged q);
   apart = fits.apart;
   windows = fits.windows;
   stands = stands;
+  unstuck = quiet_back s (beat (label.World w) entries ops) fits.unstuck;
 }
 
-standing_now : (s : Scene) (d : Server) → Fits s d → IsStanding s
+pub standing_now : (s : Scene) (d : Server) → Fits s d → IsStanding s
 standing_now s d fits = record { powered = fits.store.powered; present = fits.store.present; stands = fits.stands }
 
 damages : (s : Scene) (d e : Server) (x : Damage) → DamageTurnsAreGood → Fits s d → e.store ≡ record d.store { platter = with_op d.store.platter (Damaged x) }
@@ -107,7 +115,7 @@ damages s d e x damage fits store_is set_is commands_is arrived_is known_is keep
       ops = Damaged x ∷ [];
       added = added;
       good = damage s x (standing_now s d fits) fits.windows kept here;
-      fits = untouched s d e (Damaged x ∷ []) [] s.hist.scan fits set_is commands_is arrived_is
+      fits = untouched s d e (world.Damage x) (Damaged x ∷ []) [] s.hist.scan fits set_is commands_is arrived_is
           (has_ops s t d.store e.store (Damaged x ∷ []) fits.store refl refl map_is added (ap (λ (y : Contained). y.platter.armed) store_is)
           (ap (λ (y : Contained). y.ready) store_is) off
           (λ q. fold-append (faulty_after q) false s.ops (Damaged x ∷ [])) present)
@@ -154,7 +162,7 @@ minutes_pass s d e n entries still fits store_is set_is commands_is arrived_is k
         windows = fits.windows;
         unchanged = refl;
       });
-      fits = untouched s d e [] (Tick n ∷ []) (scan_after s.hist.scan (Tick n)) fits set_is commands_is arrived_is (has_same s d e fits store_is t refl refl)
+      fits = untouched s d e (world.Minutes n) [] (Tick n ∷ []) (scan_after s.hist.scan (Tick n)) fits set_is commands_is arrived_is (has_same s d e fits store_is t refl refl)
           (subst (λ (y : Contained). IsCached t y.cache) (sym store_is)
           (cached_got s t d.store.cache (quiet_got s t (Tick n ∷ []) refl refl refl refl refl refl refl) fits.cached))
           (subst (λ (k : Known). KnowsHistory t k) (sym known_is) (record {

@@ -121,15 +121,16 @@ same_store mid e c reply before entries told concludes = by reply refl
 record IsWriting (s : Scene) (d : Server) (c : ℕ) (b : Lba) (bytes : List ℕ) (through : Bool) : Type 0 where
   settings : Settings
   gives : Bool
+  moved : ℕ
   w : writing.Writing
   p : Progress
   rec : Option Recovery
   m : Member
   a : Accepted
   there : accepted_of d.commands.items c ≡ Some a
-  works : a.work ≡ Some (course settings gives w p rec)
-  under_way : under_way d.commands.items c ≡ Some (course settings gives w p rec)
-  at : IsAtWrite s d c m settings gives w p rec bytes
+  works : a.work ≡ Some (course settings gives moved w p rec)
+  under_way : under_way d.commands.items c ≡ Some (course settings gives moved w p rec)
+  at : IsAtWrite s d c m settings gives moved w p rec bytes
   reached : w.from ≤ w.at
   through_is : w.through ≡ through
   b_is : b ≡ lba w.at
@@ -140,10 +141,10 @@ writing_of s d c b bytes through may needs =
     let work : Course = needs.work in
     let here : WorksAt (accepted_of d.commands.items c) needs.work = works_at (accepted_of d.commands.items c) needs.work needs.under_way in
     let stands : StandsAt s c needs.work = stands_in s d c needs.work may.fits needs.under_way in
-    let write : IsWriteNeed needs.work.plan needs.work.step b through = write_need needs.work.plan needs.work.step through b needs.need_is in
-    let w_is : needs.work ≡ course needs.work.settings needs.work.gives write.w write.p needs.work.recovered =
-    λ i. record { settings = needs.work.settings; gives = needs.work.gives; plan = write.plan_is i; step = write.step_is i; recovered = needs.work.recovered } in
-    let stood : IsUnderWay needs.work.settings.retry (Writing write.w) (Trying write.p) =
+    let write : IsWriteNeed needs.work.plan needs.work.step b through = write_need needs.work.plan needs.work.moved needs.work.step through b needs.need_is in
+    let w_is : needs.work ≡ course needs.work.settings needs.work.gives needs.work.moved write.w write.p needs.work.recovered =
+    λ i. record { settings = needs.work.settings; gives = needs.work.gives; moved = needs.work.moved; plan = write.plan_is i; step = write.step_is i; recovered = needs.work.recovered } in
+    let stood : IsUnderWay needs.work.settings.retry (Writing write.w) needs.work.moved (Trying write.p) =
     (subst (λ (x : Course). IsCourse x) w_is needs.stands).under_way in
     let needed : needed_block s c ≡ Some write.w.at =
     ap (option_and_then (needed_by_plan s.hist.blocks)) (owed_at s c needs.work stands ∙ ap Some write.plan_is)
@@ -151,6 +152,7 @@ writing_of s d c b bytes through may needs =
     record {
       settings = needs.work.settings;
       gives = needs.work.gives;
+      moved = needs.work.moved;
       w = write.w;
       p = write.p;
       rec = needs.work.recovered;
@@ -194,18 +196,18 @@ kept_moves s d mid e c b bytes reply before entries told halves puts may needs o
     let room_at : is_crowded (begun s.hist (Work c)) c is.w.at ≡ false =
     ap (λ (k : Lba). is_crowded (begun s.hist (Work c)) c k.0) (sym is.b_is) ∙ uncrowded s c b d.store.cache is.at.fits.cached once settles room in
     let half_is : before ≡ Put c (lba is.w.at) bytes ∷ [] = before_is ∙ ap (λ (k : Lba). Put c k bytes ∷ []) is.b_is in
-    let answered : IsAnswered d mid c (record is.a { work = Some (written is.settings is.gives is.w is.p is.rec) }) = record {
+    let answered : IsAnswered d mid c (record is.a { work = Some (written is.settings is.gives is.moved is.w is.p is.rec) }) = record {
       set = set;
       arrived = arrived;
       known = known;
-      replaces = replaces is.a (course is.settings is.gives is.w is.p is.rec) is.there is.works;
+      replaces = replaces is.a (course is.settings is.gives is.moved is.w is.p is.rec) is.there is.works;
     } in
-    wrote s d e c is.m is.settings is.gives is.w is.p is.rec [] (Put c (lba is.w.at) bytes ∷ []) (put_state s c (lba is.w.at) bytes)
-    (turn_kept s d e c is.m is.settings is.gives is.w is.p is.rec bytes is.at halves puts is.through_is room_at kept_at)
+    wrote s d e c is.m is.settings is.gives is.moved is.w is.p is.rec [] (Put c (lba is.w.at) bytes ∷ []) (put_state s c (lba is.w.at) bytes)
+    (turn_kept s d e c is.m is.settings is.gives is.moved is.w is.p is.rec bytes is.at halves puts is.through_is room_at kept_at)
     is.a entries reply told is.at.left is.reached (verify_served is.w is.at.working.served)
-    (reply_is (course is.settings is.gives is.w is.p is.rec) is.under_way)
-    (goes_from d mid e c (record is.a { work = Some (written is.settings is.gives is.w is.p is.rec) }) reply (Put c (lba is.w.at) bytes ∷ []) before entries told answered concludes half_is)
-    (stops_from d mid e c (record is.a { work = Some (written is.settings is.gives is.w is.p is.rec) }) reply (Put c (lba is.w.at) bytes ∷ []) before entries told answered concludes half_is)
+    (reply_is (course is.settings is.gives is.moved is.w is.p is.rec) is.under_way)
+    (goes_from d mid e c (record is.a { work = Some (written is.settings is.gives is.moved is.w is.p is.rec) }) reply (Put c (lba is.w.at) bytes ∷ []) before entries told answered concludes half_is)
+    (stops_from d mid e c (record is.a { work = Some (written is.settings is.gives is.moved is.w is.p is.rec) }) reply (Put c (lba is.w.at) bytes ∷ []) before entries told answered concludes half_is)
 
 -- a block went to its place, because the command writes through, or the cache was full
 through_moves : (s : Scene) (d mid e : Server) (c : ℕ) (b : Lba) (bytes : List ℕ) (reply : Option Reply) (before entries : List Entry) (told : Option told_end.Ended)
@@ -228,20 +230,20 @@ through_moves s d mid e c b bytes reply before entries told (t, is, forced) halv
     ∙ (ap (λ (k : Lba). t || is_crowded (begun s.hist (Work c)) c k.0) (sym is.b_is) ∙ forced) in
     let half_is : before ≡ Put c (lba is.w.at) bytes ∷ Harden (Command c) (lba is.w.at) ∷ [] =
     before_is ∙ ap (λ (k : Lba). Put c k bytes ∷ Harden (Command c) k ∷ []) is.b_is in
-    let answered : IsAnswered d mid c (record is.a { work = Some (written is.settings is.gives is.w is.p is.rec) }) = record {
+    let answered : IsAnswered d mid c (record is.a { work = Some (written is.settings is.gives is.moved is.w is.p is.rec) }) = record {
       set = set;
       arrived = arrived;
       known = known;
-      replaces = replaces is.a (course is.settings is.gives is.w is.p is.rec) is.there is.works;
+      replaces = replaces is.a (course is.settings is.gives is.moved is.w is.p is.rec) is.there is.works;
     } in
-    wrote s d e c is.m is.settings is.gives is.w is.p is.rec (Wrote (placed s.map (lba is.w.at) bytes) ∷ [])
+    wrote s d e c is.m is.settings is.gives is.moved is.w is.p is.rec (Wrote (placed s.map (lba is.w.at) bytes) ∷ [])
     (Put c (lba is.w.at) bytes ∷ Harden (Command c) (lba is.w.at) ∷ []) (through_state s c (lba is.w.at) bytes)
-    (turn_through s d e c is.m is.settings is.gives is.w is.p is.rec bytes is.at halves puts forced_at all.0 own_sectors all.1 all.2 all.3)
+    (turn_through s d e c is.m is.settings is.gives is.moved is.w is.p is.rec bytes is.at halves puts forced_at all.0 own_sectors all.1 all.2 all.3)
     is.a entries reply told is.at.left is.reached (verify_served is.w is.at.working.served)
-    (reply_is (course is.settings is.gives is.w is.p is.rec) is.under_way)
-    (goes_from d mid e c (record is.a { work = Some (written is.settings is.gives is.w is.p is.rec) }) reply
+    (reply_is (course is.settings is.gives is.moved is.w is.p is.rec) is.under_way)
+    (goes_from d mid e c (record is.a { work = Some (written is.settings is.gives is.moved is.w is.p is.rec) }) reply
     (Put c (lba is.w.at) bytes ∷ Harden (Command c) (lba is.w.at) ∷ []) before entries told answered concludes half_is)
-    (stops_from d mid e c (record is.a { work = Some (written is.settings is.gives is.w is.p is.rec) }) reply
+    (stops_from d mid e c (record is.a { work = Some (written is.settings is.gives is.moved is.w is.p is.rec) }) reply
     (Put c (lba is.w.at) bytes ∷ Harden (Command c) (lba is.w.at) ∷ []) before entries told answered concludes half_is)
 
 forced_by : (s : Scene) (d : Server) (c : ℕ) (b : Lba) (bytes : List ℕ) → MayWork s d c → GoesThrough d c b bytes

@@ -44,7 +44,7 @@ use Rattle.drive_scene.proofs.Tables.{put_at-own, put_at-other, within_map}
 use Rattle.drive_core.proofs.Closing.{has_ops}
 use Rattle.drive_core.proofs.Written.{uncounted}
 use Rattle.drive_scene.proofs.HardenTurns.{unstrayed}
-use Rattle.drive_core.proofs.HardenMoves.{off-written, faults-written}
+use Rattle.drive_core.proofs.WrittenOut.{off-written, faults-written}
 use Rattle.drive_core.proofs.HardenParts.{IsAfterHarden}
 use Rattle.drive_scene.specs.Kinds.{IsPut, IsPutThrough, put_state, through_state}
 use Rattle.drive_scene.specs.Laws.{HalvesAreGood, PutsAreHalves, PutsThroughAreHalves}
@@ -53,17 +53,17 @@ use Rattle.drive_core.proofs.PutParts.{IsAfterPut, cached_put, cached_through, w
 use Rattle.drive_core.proofs.WriteTurns.{course, next-kept, next-through, next-written, to_harden, IsWriteTurn}
 
 -- a write at work on a block that nobody else holds
-pub record IsAtWrite (s : Scene) (d : Server) (c : ℕ) (m : Member) (settings : Settings) (gives : Bool) (w : writing.Writing) (p : Progress) (rec : Option Recovery) (bytes : List ℕ) : Type 0 where
+pub record IsAtWrite (s : Scene) (d : Server) (c : ℕ) (m : Member) (settings : Settings) (gives : Bool) (moved : ℕ) (w : writing.Writing) (p : Progress) (rec : Option Recovery) (bytes : List ℕ) : Type 0 where
   pub fits : Fits s d
   pub is_in : member_of s.hist.set c ≡ Some m
-  pub working : IsWorking (view s c) m (course settings gives w p rec)
+  pub working : IsWorking (view s c) m (course settings gives moved w p rec)
   pub left : w.at < w.end
   pub unhardened : w.owes_harden ≡ false
   pub free : holder_besides s (Work c) w.at ≡ None
   pub block : bytes ≡ block_of w.sent (w.at - w.from)
 
-module _ (s : Scene) (d e : Server) (c : ℕ) (m : Member) (settings : Settings) (gives : Bool) (w : writing.Writing) (p : Progress) (rec : Option Recovery)
-    (bytes : List ℕ) (at : IsAtWrite s d c m settings gives w p rec bytes) where
+module _ (s : Scene) (d e : Server) (c : ℕ) (m : Member) (settings : Settings) (gives : Bool) (moved : ℕ) (w : writing.Writing) (p : Progress) (rec : Option Recovery)
+    (bytes : List ℕ) (at : IsAtWrite s d c m settings gives moved w p rec bytes) where
   owes : owed_by s.hist c ≡ Some (Writing w)
   owes = ap (λ (o : Option Member). option_and_then (λ (x : Member). (s.hist.duties c).owes) o) at.is_in ∙ at.working.owes
 
@@ -75,7 +75,7 @@ module _ (s : Scene) (d e : Server) (c : ℕ) (m : Member) (settings : Settings)
 
   -- into the cache
   pub turn_kept : HalvesAreGood → PutsAreHalves → w.through ≡ false → is_crowded (begun s.hist (Work c)) c w.at ≡ false → IsInCache (lba w.at) bytes d.store e.store
-      → IsWriteTurn s d e c m (course settings gives w p rec) (after_written w) [] (Put c (lba w.at) bytes ∷ []) (put_state s c (lba w.at) bytes)
+      → IsWriteTurn s d e c m (course settings gives moved w p rec) (after_written w) [] (Put c (lba w.at) bytes ∷ []) (put_state s c (lba w.at) bytes)
   turn_kept halves puts unforced room kept =
       let added : e.store.platter.ops ≡ d.store.platter.ops ++ [] = ap (λ (x : Contained). x.platter.ops) kept.after ∙ sym (append-nil d.store.platter.ops) in
       let present : IsPresentMap e.store.map e.store.platter.ops =
@@ -112,14 +112,14 @@ module _ (s : Scene) (d e : Server) (c : ℕ) (m : Member) (settings : Settings)
               more_ops = [];
               since = since_is;
             } in
-            cached_put s t c (lba w.at) bytes d.store.cache e.store.cache after kept.cache at.fits.cached;
+            cached_put s t c (lba w.at) bytes d.store.cache e.store.cache after below kept.cache at.fits.cached;
       }
 
   -- to its place
   pub turn_through : HalvesAreGood → PutsThroughAreHalves → (w.through || is_crowded (begun s.hist (Work c)) c w.at) ≡ true → IsAtPlace (lba w.at) bytes d.store e.store → BlocksHaveOwnSectors
       → StoresAt d.store.map e.store.platter.ops (lba w.at) (Data bytes) → KeepsOthers d.store.map d.store.platter.ops e.store.platter.ops (lba w.at)
       → IsPresentMap e.store.map e.store.platter.ops
-      → IsWriteTurn s d e c m (course settings gives w p rec) (after_written w) (Wrote (placed s.map (lba w.at) bytes) ∷ [])
+      → IsWriteTurn s d e c m (course settings gives moved w p rec) (after_written w) (Wrote (placed s.map (lba w.at) bytes) ∷ [])
       (Put c (lba w.at) bytes ∷ Harden (Command c) (lba w.at) ∷ []) (through_state s c (lba w.at) bytes)
   turn_through halves puts forced stored own_sectors stores keeps present =
       let payload_is : placed d.store.map (lba w.at) bytes ≡ placed s.map (lba w.at) bytes = ap (λ (n : DefectMap). placed n (lba w.at) bytes) at.fits.store.map in

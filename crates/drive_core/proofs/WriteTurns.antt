@@ -30,9 +30,10 @@ use Rattle.command_engine.specs.declared.need.Need.{Need}
 use Rattle.command_engine.specs.declared.need.Need.TheVariants as need
 use Rattle.command_engine.specs.declared.step.Recovery.{Recovery}
 use Rattle.command_engine.specs.declared.step.Step.{Step}
-use Rattle.command_engine.specs.declared.step.Step.TheVariants.{Trying, Hardening, Faulted}
+use Rattle.command_engine.specs.declared.step.Step.TheVariants.{Trying, Hardening}
+use Rattle.command_engine.specs.declared.step.Step.TheVariants as step
 use Rattle.command_engine.specs.Course.{Course}
-use Rattle.command_engine.specs.Need.{need_by, need_at_read, need_at_sync, taking, end_of}
+use Rattle.command_engine.specs.Need.{need_by, need_at_read, need_at_sync, need_at_move, taking, taking_block, in_hand, end_of}
 use Rattle.command_engine.specs.Ending.{ending_of, ending_by}
 use Rattle.block_machine.specs.declared.entry.Entry.{Entry}
 use Rattle.block_machine.specs.declared.entry.Entry.TheVariants.{Ended}
@@ -96,14 +97,14 @@ read_at : (r : reading.Reading) (step : Step) (through : Bool) (b : Lba) → nee
 read_at r (Trying p) through b is = never_taken r (next_stage p) through b is
 read_at r Hardening true b is = cc
 read_at r Hardening false b is = cc
-read_at r Faulted through b is = never_nothing through b is
+read_at r other through b is = never_nothing through b is
 
 sync_at : (y : syncing.Syncing) (step : Step) (through : Bool) (b : Lba) → need_at_sync y step ≡ put_need through b → ⊥
 sync_at y (Trying p) true b is = cc
 sync_at y (Trying p) false b is = cc
 sync_at y Hardening true b is = cc
 sync_at y Hardening false b is = cc
-sync_at y Faulted through b is = never_nothing through b is
+sync_at y other through b is = never_nothing through b is
 
 unless : (n : Need) (through : Bool) (b : Lba) → (n ≡ put_need through b → ⊥) → (t : Bool) → cond t n need.Nothing ≡ put_need through b → ⊥
 unless n through b never true is = never is
@@ -125,19 +126,32 @@ write_at w p through b true below is =
     let put = put_at_write w w.through through b is in
     record { w = w; p = p; plan_is = refl; step_is = refl; left = ltb-true w.at w.end below; at = put.1; through_is = put.0 }
 
-pub write_need : (plan : Plan) (step : Step) (through : Bool) (b : Lba) → need_by plan step ≡ put_need through b → IsWriteNeed plan step b through
-write_need (Ending reply) step through b is = absurd (never_nothing through b is)
-write_need (Unread n) step through b is = absurd (never_nothing through b is)
-write_need (Answering bytes reply) step true b is = absurd (cc)
-write_need (Answering bytes reply) step false b is = absurd (cc)
-write_need Changing step through b is = absurd (never_nothing through b is)
-write_need (Reading r) step through b is = absurd (unless (need_at_read r step) through b (read_at r step through b) (ltb r.at r.end) is)
-write_need (Writing w) (Trying p) through b is = write_at w p through b (ltb w.at w.end) refl is
-write_need (Writing w) Hardening through b is = absurd (unless need.Nothing through b (never_nothing through b) (ltb w.at w.end) is)
-write_need (Writing w) Faulted through b is = absurd (unless need.Nothing through b (never_nothing through b) (ltb w.at w.end) is)
-write_need (Syncing y) step through b is = absurd (unless (need_at_sync y step) through b (sync_at y step through b) (ltb y.at y.end) is)
-write_need (Moving m) step through b is = absurd (never_nothing through b is)
-write_need Over step through b is = absurd (never_nothing through b is)
+-- nor does one of a list of blocks
+listed_at : (own : Lba) (o : Option Stage) (through : Bool) (b : Lba) → taking_block own true o ≡ put_need through b → ⊥
+listed_at own None through b is = never_nothing through b is
+listed_at own (Some stage) true b is = cc
+listed_at own (Some stage) false b is = cc
+
+list_at : (o : Option Lba) (step : Step) (through : Bool) (b : Lba) → need_at_move o step ≡ put_need through b → ⊥
+list_at None step through b is = never_nothing through b is
+list_at (Some own) (Trying p) through b is = listed_at own (next_stage p) through b is
+list_at (Some own) (step.Moving why) true b is = cc
+list_at (Some own) (step.Moving why) false b is = cc
+list_at (Some own) other through b is = never_nothing through b is
+
+pub write_need : (plan : Plan) (moved : ℕ) (step : Step) (through : Bool) (b : Lba) → need_by plan moved step ≡ put_need through b → IsWriteNeed plan step b through
+write_need (Ending reply) moved step through b is = absurd (never_nothing through b is)
+write_need (Unread n) moved step through b is = absurd (never_nothing through b is)
+write_need (Answering bytes reply) moved step true b is = absurd (cc)
+write_need (Answering bytes reply) moved step false b is = absurd (cc)
+write_need Changing moved step through b is = absurd (never_nothing through b is)
+write_need (Reading r) moved step through b is = absurd (unless (need_at_read r step) through b (read_at r step through b) (ltb r.at r.end) is)
+write_need (Writing w) moved (Trying p) through b is = write_at w p through b (ltb w.at w.end) refl is
+write_need (Writing w) moved Hardening through b is = absurd (unless need.Nothing through b (never_nothing through b) (ltb w.at w.end) is)
+write_need (Writing w) moved other through b is = absurd (unless need.Nothing through b (never_nothing through b) (ltb w.at w.end) is)
+write_need (Syncing y) moved step through b is = absurd (unless (need_at_sync y step) through b (sync_at y step through b) (ltb y.at y.end) is)
+write_need (Moving m) moved step through b is = absurd (list_at (in_hand m moved) step through b is)
+write_need Over moved step through b is = absurd (never_nothing through b is)
 
 -- the plan of a put: it is to be hardened where it goes through, and else is done
 abbrev pub to_harden : writing.Writing → Plan
@@ -200,18 +214,18 @@ after w left = by (eqb (w.at + 1) w.end) refl w.verifies refl
         let other : w.at + 1 ≢ w.end = λ same. let yes : eqb (w.at + 1) w.end ≡ true = eq-eqb (w.at + 1) w.end same in cc in
         another (omega arith) (is false false ui ti)
 
-module _ (settings : Settings) (gives : Bool) (w : writing.Writing) (p : Progress) (rec : Option Recovery) where
+module _ (settings : Settings) (gives : Bool) (moved : ℕ) (w : writing.Writing) (p : Progress) (rec : Option Recovery) where
   -- the write at work
   abbrev pub course : Course
-  course = record { settings = settings; gives = gives; plan = Writing w; step = Trying p; recovered = rec }
+  course = record { settings = settings; gives = gives; moved = moved; plan = Writing w; step = Trying p; recovered = rec }
 
   -- and once the block is put
   abbrev pub written : Course
-  written = record { settings = settings; gives = gives; plan = after_written w; step = Trying (begun settings.retry); recovered = rec }
+  written = record { settings = settings; gives = gives; moved = moved; plan = after_written w; step = Trying (begun settings.retry); recovered = rec }
 
   -- how it ends by then
-  ending-is : (plan : Plan) → after_written w ≡ plan → ending_of written ≡ ending_by plan (Trying (begun settings.retry)) rec
-  ending-is plan is = ap (λ (x : Plan). ending_by x (Trying (begun settings.retry)) rec) is
+  ending-is : (plan : Plan) → after_written w ≡ plan → ending_of written ≡ ending_by plan moved (Trying (begun settings.retry)) rec
+  ending-is plan is = ap (λ (x : Plan). ending_by x moved (Trying (begun settings.retry)) rec) is
 
   unended-another : w.at + 1 < w.end → after_written w ≡ Writing (next_writing w) → ending_of written ≡ None
   unended-another more is =
@@ -230,7 +244,7 @@ module _ (settings : Settings) (gives : Bool) (w : writing.Writing) (p : Progres
       → end_of plan ≤ capacity_of v.size → IsOwnRecovery v.duty.asks rec → IsOwnRange v.duty.asks plan → IsTrue (is_served_plan plan)
       → IsCommand v (record a { work = Some written })
   staged_by v m a plan is is_in started owes settings_are few recovered at range own_recovery own_range served =
-      let whole : IsWorking v m (record { settings = settings; gives = gives; plan = plan; step = Trying (begun settings.retry); recovered = rec }) = record {
+      let whole : IsWorking v m (record { settings = settings; gives = gives; moved = moved; plan = plan; step = Trying (begun settings.retry); recovered = rec }) = record {
         started = started;
         owes = owes ∙ ap Some is;
         settings = settings_are;
@@ -242,7 +256,7 @@ module _ (settings : Settings) (gives : Bool) (w : writing.Writing) (p : Progres
         own_range = own_range;
         served = served;
       } in
-      let W : Plan → Type 0 = λ x. IsWorking v m (record { settings = settings; gives = gives; plan = x; step = Trying (begun settings.retry); recovered = rec }) in
+      let W : Plan → Type 0 = λ x. IsWorking v m (record { settings = settings; gives = gives; moved = moved; plan = x; step = Trying (begun settings.retry); recovered = rec }) in
       record { member = m; is_in = is_in; under_way = subst W (sym is) whole }
 
 -- a read that comes next was neither tried nor hardened
@@ -278,8 +292,8 @@ pub record IsWriteTurn (s : Scene) (d e : Server) (c : ℕ) (m : Member) (course
   pub cached : (t : Scene) (more : List Entry) → t.size ≡ s.size → t.map ≡ s.map → t.ops ≡ s.ops ++ ops → t.since ≡ s.since ++ ops → t.entries ≡ s.entries ++ (half ++ more)
       → t.hist.blocks ≡ h.blocks → t.hist.dirty ≡ h.dirty → IsCached t e.store.cache
 
-module _ (s : Scene) (d e : Server) (c : ℕ) (m : Member) (settings : Settings) (gives : Bool) (w : writing.Writing) (p : Progress) (rec : Option Recovery)
-    (ops : List Op) (half : List Entry) (h : State) (turn : IsWriteTurn s d e c m (course settings gives w p rec) (after_written w) ops half h) where
+module _ (s : Scene) (d e : Server) (c : ℕ) (m : Member) (settings : Settings) (gives : Bool) (moved : ℕ) (w : writing.Writing) (p : Progress) (rec : Option Recovery)
+    (ops : List Op) (half : List Entry) (h : State) (turn : IsWriteTurn s d e c m (course settings gives moved w p rec) (after_written w) ops half h) where
   -- the scene after the half
   abbrev t : Scene
   t = after_half s c ops half
@@ -309,9 +323,9 @@ module _ (s : Scene) (d e : Server) (c : ℕ) (m : Member) (settings : Settings)
 
   staged : (a : Accepted) (plan : Plan) → after_written w ≡ plan → IsAtBlock (view (after_half s c ops half) c) plan (Trying (begun settings.retry))
       → end_of plan ≤ capacity s → IsOwnRange (s.hist.duties c).asks plan → IsTrue (is_served_plan plan)
-      → IsCommand (view (after_half s c ops half) c) (record a { work = Some (written settings gives w p rec) })
+      → IsCommand (view (after_half s c ops half) c) (record a { work = Some (written settings gives moved w p rec) })
   staged a plan is at range own_range served =
-      staged_by settings gives w p rec (view (after_half s c ops half) c) m a plan is member turn.working.started owes
+      staged_by settings gives moved w p rec (view (after_half s c ops half) c) m a plan is member turn.working.started owes
       (ap (λ f. f c) turn.half_is.settings ∙ turn.working.settings) turn.working.retry (turn.recovered ∙ turn.working.recovered) at range
       (subst (λ (x : Result Request Sense). IsOwnRecovery x rec) (sym asks) turn.working.own_recovery)
       (subst (λ (x : Result Request Sense). IsOwnRange x plan) (sym asks) own_range) served
@@ -320,12 +334,12 @@ module _ (s : Scene) (d e : Server) (c : ℕ) (m : Member) (settings : Settings)
   on : (a : Accepted) (plan : Plan) (entries : List Entry) (told : Option told_end.Ended) → after_written w ≡ plan → owes_nothing_now (Some plan) ≡ true
       → IsAtBlock (view (after_half s c ops half) c) plan (Trying (begun settings.retry))
       → end_of plan ≤ capacity s → IsOwnRange (s.hist.duties c).asks plan → IsTrue (is_served_plan plan) → held_by_plan [] plan ≡ None
-      → Goes d e c (record a { work = Some (written settings gives w p rec) }) half entries told → Moves (Work c) s d e entries told
+      → Goes d e c (record a { work = Some (written settings gives moved w p rec) }) half entries told → Moves (Work c) s d e entries told
   on a plan entries told is settled at range own_range served holds goes =
-      moves_on s c ops half entries h (after_written w) d e (record a { work = Some (written settings gives w p rec) }) told turn.half_is
+      moves_on s c ops half entries h (after_written w) d e (record a { work = Some (written settings gives moved w p rec) }) told turn.half_is
       (turn.halves.on s c ops half h (after_written w) (room_of s c d turn.fits) (turn.has (after_half s c ops half) refl refl).present turn.half_is
       (subst (λ (es : List Entry). AreTriesShown s (Work c) es ops) (append-nil half) (turn.tries [])) (ap (λ (x : Plan). owes_nothing_now (Some x)) is ∙ settled) turn.acts)
-      (fits_on s c ops half h (after_written w) d e (record a { work = Some (written settings gives w p rec) }) turn.half_is turn.fits goes.set goes.arrived goes.known
+      (fits_on s c ops half h (after_written w) d e (record a { work = Some (written settings gives moved w p rec) }) turn.half_is turn.fits goes.set goes.arrived goes.known
       goes.replaces (turn.has (after_half s c ops half) refl refl)
       (turn.cached (after_half s c ops half) [] refl refl refl refl (ap (λ (es : List Entry). s.entries ++ es) (sym (append-nil half)))
       (ap (λ (x : State). x.blocks) turn.half_is.reached) (ap (λ (x : State). x.dirty) turn.half_is.reached))
@@ -357,20 +371,20 @@ module _ (s : Scene) (d e : Server) (c : ℕ) (m : Member) (settings : Settings)
   -- whatever comes next
   pub wrote : (a : Accepted) (entries : List Entry) (reply : Option Reply) (told : Option told_end.Ended) → w.at < w.end → w.from ≤ w.at
       → (w.verifies ≡ true → IsTrue (is_served_plan (Reading (verifying w))))
-      → reply ≡ ending_of (written settings gives w p rec)
-      → (reply ≡ None → Goes d e c (record a { work = Some (written settings gives w p rec) }) half entries told)
+      → reply ≡ ending_of (written settings gives moved w p rec)
+      → (reply ≡ None → Goes d e c (record a { work = Some (written settings gives moved w p rec) }) half entries told)
       → ((x : Reply) → reply ≡ Some x → Stops d e c x half entries told) → Moves (Work c) s d e entries told
   wrote a entries reply told left from served reply_is goes stops = by (after w left)
     where
       by : After w → Moves (Work c) s d e entries told
       by (another more is) =
           on a (Writing (next_writing w)) entries told is refl (window, more, refl) turn.working.range turn.working.own_range turn.working.served refl
-          (goes (reply_is ∙ unended-another settings gives w p rec more is))
+          (goes (reply_is ∙ unended-another settings gives moved w p rec more is))
       by (verify verifies is) =
           on a (Reading (verifying w)) entries told is refl
           (fresh_reading (view (after_half s c ops half) c) (verifying w) settings.retry (omega arith) window
           (ap (λ (x : Settings). x.retry) (ap (λ f. f c) turn.half_is.settings ∙ turn.working.settings))
           (ap (λ (o : Option ℕ). option_map_or (λ b. is_dirty ((after_half s c ops half).hist.blocks b)) o false) (unheld (verifying w) refl is)))
           turn.working.range (turn.working.own_range verifies) (served verifies) refl
-          (goes (reply_is ∙ unended-verify settings gives w p rec (omega arith) is))
-      by (done last is) = over entries told last is (stops good (reply_is ∙ ended-done settings gives w p rec last is))
+          (goes (reply_is ∙ unended-verify settings gives moved w p rec (omega arith) is))
+      by (done last is) = over entries told last is (stops good (reply_is ∙ ended-done settings gives moved w p rec last is))

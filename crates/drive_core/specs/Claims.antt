@@ -10,6 +10,7 @@ use Rattle.drive_scene.specs.declared.event.Holder.TheVariants.{Command}
 use Rattle.drive_scene.specs.declared.answer.TurnAnswer.{TurnAnswer}
 use Rattle.drive_scene.specs.declared.answer.TurnAnswer.TheVariants.{Held}
 use Rattle.drive_core.specs.declared.able.Claim.{Claim}
+use Rattle.write_cache.specs.Contents.{is_at}
 
 -- the block that a command needs next, and the one that it holds
 abbrev pub claim_of : Scene → ℕ → Claim
@@ -26,6 +27,10 @@ older_after older place = option_map_or (λ i. if i == older then older + 1 else
 -- a block is held by the claim
 abbrev pub is_holder : Claim → Bool
 is_holder claim = is_some claim.holds
+
+-- the claim holds this block
+abbrev pub is_held_by : Lba → Claim → Bool
+is_held_by b claim = option_map_or (is_at b) claim.holds false
 
 -- the claims by which blocks are held, by age
 abbrev pub holders_of : Scene → List Claim

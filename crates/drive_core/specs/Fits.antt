@@ -43,11 +43,12 @@ pub record IsClean (s : Scene) (b : Lba) (bytes : List ℕ) : Type 0 where
   pub known : IsKnown s.entries s.since b (Data bytes)
   pub stored : strays s.ops ≡ 0 → stored s.map s.ops b ≡ Data bytes
 
--- the cache's dirty blocks are those of the history, with their newest values and in their order, and these values are known;
+-- the cache's dirty blocks are those of the history, with their newest values and in their order, they are the drive's, and these values are known;
 -- its clean ones are clean
 pub record IsCached (s : Scene) (cache : Contents) : Type 0 where
   pub dirty : (b : Lba) → blocks.newest (s.hist.blocks b.0) ≡ option_map Data (newest b cache)
   pub ages : map (λ k. k.0) (keys_of cache.dirty) ≡ s.hist.dirty
+  pub below : (b : Lba) (bytes : List ℕ) → newest b cache ≡ Some bytes → b.0 < capacity s
   pub known : (b : Lba) (bytes : List ℕ) → newest b cache ≡ Some bytes → IsKnown s.entries s.since b (Data bytes)
   pub clean : (b : Lba) (bytes : List ℕ) → clean_data b cache ≡ Some bytes → IsClean s b bytes
 
@@ -79,3 +80,5 @@ pub record Fits (s : Scene) (d : Server) : Type 0 where
   pub apart : IsApart s
   pub windows : (c : ℕ) → length (s.windows c) ≤ window_at_most
   pub stands : IsStood s.map s.ops s.hist.blocks
+  -- no destage failed
+  pub unstuck : (b : ℕ) → s.back.stuck b ≡ false

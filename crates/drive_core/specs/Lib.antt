@@ -12,3 +12,4 @@ pub mod Needed
 pub mod Claims
 pub mod Putting
 pub mod Syncing
+pub mod Destaging

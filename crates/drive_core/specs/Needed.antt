@@ -17,6 +17,7 @@ IsNeeded cache (need.Put b) first = first ≡ Some b
 IsNeeded cache (need.PutThrough b) first = first ≡ Some b
 IsNeeded cache (need.Harden b) first = first ≡ Some b
 IsNeeded cache (need.Pass from to) first = IsFirstWithin cache from to first
+IsNeeded cache (need.Move b why) first = first ≡ Some b
 IsNeeded cache need.Page first = first ≡ None
 IsNeeded cache need.Nothing first = first ≡ None
 

@@ -1,5 +1,6 @@
 //! Which turns may come, and why others are refused.
-ghost use Rattle.std.specs.Prelude.{◌≡◌, ◌+◌, ◌<◌, ◌≤◌, if◌then◌else◌, ℕ, map, filter, length, position, slice_index_or, All, Some, None, IfSome};
+ghost use Rattle.std.specs.Prelude.{◌≡◌, ◌+◌, ◌<◌, ◌≤◌, if◌then◌else◌, ℕ, map, filter, length, position, slice_index, slice_index_or, nat_lt, All, Some, None, IfSome};
+ghost use Rattle.std.specs.List.{list_any};
 ghost use Rattle.std.specs.Option.{option_map, option_and_then};
 ghost use Rattle.command_engine.specs.Need.{need_of};
 ghost use Rattle.command_engine.specs.Answers.{is_hardened};
@@ -10,8 +11,11 @@ ghost use Rattle.drive_core.specs.Fits.{Fits};
 ghost use Rattle.drive_core.specs.Needed.{IsNeeded, held_of};
 ghost use Rattle.drive_core.specs.Accepting.{is_numbered};
 ghost use Rattle.drive_core.specs.declared.accepted.Accepted.{Accepted as Command};
-ghost use Rattle.drive_core.specs.Claims.{older_after, claim_of, claims_of, holders_of, is_holder, keeps_from, holder_besides, held_back};
-ghost use Rattle.drive_scene.specs.Able.{refusal_of_work, work_refused, is_able, arrives, picked, nothing_waiting};
+ghost use Rattle.write_cache.specs.Contents.{is_at};
+ghost use Rattle.drive_core.specs.Claims.{older_after, claim_of, claims_of, holders_of, is_holder, is_held_by, keeps_from, holder_besides, held_back};
+ghost use Rattle.drive_scene.specs.Evidence.{lba};
+ghost use Rattle.drive_scene.specs.Holds.{destaged};
+ghost use Rattle.drive_scene.specs.Able.{refusal_of_work, work_refused, is_able, able_destage, arrives, picked, nothing_waiting};
 
 use crate::accepted::{Accepted, place};
 use crate::server::Server;
@@ -45,7 +49,8 @@ pub fn picked(server: &Server, waiting: &Waiting, x: u32) -> Option<Pick>
 {
     let arrivals = arriving(waiting);
     let commands = able_commands(server);
-    let count = arrivals.len() + commands.len();
+    let destages = able_destages(server, waiting);
+    let count = arrivals.len() + commands.len() + destages;
     if count == 0 {
         return None;
     }
@@ -53,8 +58,54 @@ pub fn picked(server: &Server, waiting: &Waiting, x: u32) -> Option<Pick>
     if k < arrivals.len() {
         Some(Pick::Arrive(arrivals[k]))
     } else {
-        Some(Pick::Work(commands[k - arrivals.len()]))
+        Some(behind_arrivals(commands.as_slice(), k - arrivals.len()))
     }
+}
+
+// What comes behind the arrivals: work on these commands, and then a destage.
+fn behind_arrivals(commands: &[u32], n: usize) -> Pick
+    ensures { result ≡ (if nat_lt n (length commands.now) then Pick.Work (slice_index commands.now n) else Pick.Destage) }
+{
+    if n < commands.len() {
+        Pick::Work(commands[n])
+    } else {
+        Pick::Destage
+    }
+}
+
+// How many destages may come: one, where one is asked for and a block is to be destaged.
+fn able_destages(server: &Server, waiting: &Waiting) -> usize
+    ensures count { (s : Scene) → Fits s server.now → result ≡ length (able_destage s waiting.now) }
+    ensures few { result ≤ 1 }
+{
+    if waiting.destages && destaged(server).is_some() {
+        1
+    } else {
+        0
+    }
+}
+
+/// The block that a destage writes: the oldest dirty one that nobody holds.
+pub fn destaged(server: &Server) -> Option<Lba>
+    ensures { (s : Scene) → Fits s server.now → result ≡ option_map lba (destaged s) }
+{
+    let claims = claims(server);
+    let held = held_blocks(claims.as_slice());
+    server.store.cached().oldest_dirty(held.as_slice())
+}
+
+// The blocks that are held by the claims.
+fn held_blocks(claims: &[Claim]) -> ArrayVec<Lba, TASKS_MAX>
+    requires { length claims.now ≤ TASKS_MAX }
+    ensures { (b : Lba) → list_any (is_at b) result.items ≡ list_any (is_held_by b) claims.now }
+{
+    let mut held = ArrayVec::new();
+    for claim in claims {
+        if let Some(b) = claim.holds {
+            held.push(b);
+        }
+    }
+    held
 }
 
 /// The command that a number picks while nothing waits outside; none where none is able.
@@ -225,6 +276,7 @@ fn block_of(need: Need, cache: &Cache) -> Option<Lba>
         Need::PutThrough { b } => Some(b),
         Need::Harden { b } => Some(b),
         Need::Pass { from, to } => cache.next_dirty(from, to),
+        Need::Move { b, .. } => Some(b),
         Need::Page => None,
         Need::Nothing => None,
     }

@@ -137,11 +137,17 @@ impl Drive {
                     coming: self.coming,
                 }),
             },
+            Event::Destage => match able::destaged(&self.server) {
+                Some(_) => None,
+                None => Some(TurnAnswer::Idle {
+                    coming: self.coming,
+                }),
+            },
             _ => None,
         }
     }
 
-    /// The turn that a number picks among those that may come: what arrives by initiator, then commands by age.
+    /// The turn that a number picks among those that may come: what arrives by initiator, then commands by age, then a destage.
     pub fn pick(&self, waiting: &Waiting, x: u32) -> Option<Pick>
         ensures value { result ≡ pick_of self.now waiting.now x }
     {

@@ -1,5 +1,5 @@
 //! Dirty blocks go to their places.
-ghost use Rattle.std.specs.Prelude.{◌≡◌, ◌+◌, ◌≤◌, Some, IsSomeAnd, IsTrue, vec_len, vec_capacity};
+ghost use Rattle.std.specs.Prelude.{◌≡◌, ◌+◌, ◌≤◌, ◌&&◌, Some, IsSomeAnd, IsTrue, vec_len, vec_capacity};
 ghost use Rattle.write_cache.specs.Contents.{newest};
 ghost use Rattle.command_engine.specs.Answers.{fits};
 ghost use Rattle.command_engine.specs.Course.{Course};
@@ -7,6 +7,7 @@ ghost use Rattle.command_engine.specs.Ending.{ending_of};
 ghost use Rattle.block_machine.specs.declared.turn.Label.TheVariants.{Work as WorkOn};
 ghost use Rattle.drive_core.specs.Accepting.{accepted_of, under_way, Replaces};
 ghost use Rattle.drive_core.specs.Hardening.{MayHardenFor, hardened_at};
+ghost use Rattle.drive_core.specs.Served.{is_served_plan};
 ghost use Rattle.drive_core.specs.Moves.{Moves};
 ghost use Rattle.drive_scene.specs.Scene.{Scene};
 ghost use Rattle.drive_core.specs.declared.accepted.Accepted.{Accepted as Command};
@@ -47,7 +48,7 @@ pub fn harden(server: &mut Server, c: u32, b: Lba, entries: &mut Vec<Entry>) -> 
 
 // A command meets a block dirty, and then the block is hardened.
 fn hardened(commands: &mut Vec<Accepted>, c: u32, b: Lba) -> Option<Reply>
-    requires { IsSomeAnd (under_way commands.old.items c) (λ w. IsTrue (fits w (Answer.NextDirty (Some b)))) }
+    requires { IsSomeAnd (under_way commands.old.items c) (λ w. IsTrue (is_served_plan w.plan && fits w (Answer.NextDirty (Some b)))) }
     ensures reply { (w : Course) → under_way commands.old.items c ≡ Some w → result ≡ ending_of (hardened_at b w) }
     ensures goes { (a : Command) (w : Course) → accepted_of commands.old.items c ≡ Some a → a.work ≡ Some w
         → Replaces commands.old.items commands.new.items c (record a { work = Some (hardened_at b w) }) }

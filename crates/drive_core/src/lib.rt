@@ -7,6 +7,7 @@ mod able;
 mod accepted;
 mod arriving;
 mod asking;
+mod destaging;
 mod drive;
 mod ending;
 mod hardening;

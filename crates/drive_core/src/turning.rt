@@ -9,6 +9,7 @@ ghost use Rattle.block_machine.specs.declared.turn.Label.TheVariants.{Work as Wo
 
 use crate::accepted::{Errand, errand_at};
 use crate::arriving::arrive;
+use crate::destaging::destage;
 use crate::putting::{block_to_put, put, put_through};
 use crate::server::Server;
 use crate::starting::start;
@@ -76,7 +77,14 @@ pub fn make_turn(
                 ended: None,
             })
         }
-        Event::Job(_) | Event::Scan | Event::Destage => unreachable!(),
+        Event::Destage => {
+            destage(server, entries);
+            Ok(MadeTurn {
+                label: Label::Destage,
+                ended: None,
+            })
+        }
+        Event::Job(_) | Event::Scan => unreachable!(),
     }
 }
 
@@ -158,7 +166,7 @@ fn go_on(server: &mut Server, c: u32, errand: Errand, entries: &mut Vec<Entry>) 
             put_through(server, c, b, &block, entries)
         }
         Need::Pass { from, to } => sync(server, c, from, to, entries),
-        // Never while a command is under way: it hardens a block in the turn that meets it.
-        Need::Harden { .. } | Need::Page | Need::Nothing => unreachable!(),
+        // Never while a command is under way: it hardens a block in the turn that meets it. Blocks aren't reassigned yet.
+        Need::Harden { .. } | Need::Move { .. } | Need::Page | Need::Nothing => unreachable!(),
     }
 }

@@ -9,7 +9,15 @@ pub mod Gets
 pub mod Tries
 pub mod GetTurns
 pub mod HardenTurns
+pub mod DestageTurns
 pub mod PassTurns
+pub mod MayHave
+pub mod CommitTable
+pub mod CommitTurns
+pub mod Flights
+pub mod MovesGoOn
+pub mod OtherFlights
+pub mod CommitTasks
 pub mod PutTurns
 pub mod Apart
 pub mod Leaving
@@ -20,3 +28,5 @@ pub mod Pushes
 pub mod AtStart
 pub mod TurnExamples
 pub mod RunExamples
+pub mod DestageExamples
+pub mod MoveExamples

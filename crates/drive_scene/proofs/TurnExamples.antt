@@ -146,19 +146,16 @@ cut_from_outside off entries ops never = never
 power_from_outside : (off : Bool) (entries : List Entry) (ops : List Op) → IsWorldStep off world.Power entries ops → ⊥
 power_from_outside off entries ops never = never
 
--- no turn is one of a move, of the scan or of a destage
+-- no turn is one of a move or of the scan
 turn_of_a_move : (s : Scene) (j : ℕ) (entries : List Entry) (ops : List Op) → IsStep s (label.Job j) entries ops → ⊥
 turn_of_a_move s j entries ops never = never
 
 entries_of_the_scan : (entries : List Entry) → AreOwn label.Scan entries → ⊥
 entries_of_the_scan entries never = never
 
--- nothing shows a block that is given up, nor one that the drive hardens on its own
+-- nothing shows a block that is given up
 given_up : (s : Scene) (t : Beat) (h : State) → Shows s t h (GiveUp (lba 7)) → ⊥
 given_up s t h never = never
-
-hardened_by_itself : (s : Scene) (t : Beat) (h : State) → Shows s t h (Harden Drive (lba 7)) → ⊥
-hardened_by_itself s t h never = never
 
 -- stages are tried in their order: the plain read comes first
 plain_read_first : FailedBelow (try_of 7 p40 plain None) p40 3 1

@@ -1,8 +1,8 @@
 -- Walks along the set and the initiators, and what they give.
-use Rattle.std.proofs.Common.{◌≡◌, ℕ, zero, suc, ◌+◌, ◌-◌, ◌<◌, ◌≤◌, Bool, true, false, not, cond, eqb, List, [], ◌∷◌, ◌++◌, length, get_or, take, drop, Option, Some, None, refl, sym, ap, ◌∙◌, subst, arith, add-one, drop-cons, length-append, append-nil, map, filter}
-use Rattle.std.specs.Prelude.{◌%◌, find, slice_get}
+use Rattle.std.proofs.Common.{◌≡◌, ℕ, zero, suc, ◌+◌, ◌-◌, ◌<◌, ◌≤◌, Bool, true, false, not, cond, eqb, ltb, List, [], ◌∷◌, ◌++◌, length, get_or, take, drop, Option, Some, None, refl, sym, ap, ◌∙◌, subst, arith, add-one, drop-cons, length-append, append-nil, map, filter}
+use Rattle.std.specs.Prelude.{◌%◌, ◌&&◌, find, slice_get}
 use Rattle.std.specs.Option.{option_map_or, is_none, is_some}
-use Rattle.std.proofs.lemmas.Bool.{cond-true, cond-false, eq-eqb, ne_eqb, eqb-true}
+use Rattle.std.proofs.lemmas.Bool.{cond-true, cond-false, eq-eqb, ne_eqb, eqb-true, ltb-true, ltb-false}
 use Rattle.std.proofs.lemmas.List.{get_or-map, length-map, map-append, get_or_append_left, get_or-append-add}
 use Rattle.std.proofs.lemmas.List.Elements.{filter_more}
 use Rattle.std.proofs.lemmas.Option.{slice_get-get_or}
@@ -11,11 +11,12 @@ use Rattle.task_set.specs.Members.{member_of, IsByAge}
 use Rattle.block_machine.specs.Attentions.{initiators}
 use Rattle.drive_scene.specs.declared.answer.Waiting.{Waiting}
 use Rattle.drive_scene.specs.declared.answer.Pick.{Pick}
-use Rattle.drive_scene.specs.declared.answer.Pick.TheVariants.{Arrive, Work}
+use Rattle.drive_scene.specs.declared.answer.Pick.TheVariants.{Arrive, Work, Destage}
 use Rattle.drive_scene.specs.declared.answer.TurnAnswer.{TurnAnswer}
 use Rattle.drive_scene.specs.declared.answer.TurnAnswer.TheVariants.{Idle}
 use Rattle.drive_scene.specs.Scene.{Scene}
-use Rattle.drive_scene.specs.Able.{arrives, is_able, able, picked, nothing_waiting, work_refused, refusal_of_work}
+use Rattle.drive_scene.specs.Holds.{destaged}
+use Rattle.drive_scene.specs.Able.{arrives, is_able, able, able_destage, picked, nothing_waiting, work_refused, refusal_of_work}
 
 -- what doesn't pass is walked past
 find-past : {X : Type 0} (p : X → Bool) (xs : List X) (i : ℕ) (d : X) → i < length xs → p (get_or xs i d) ≡ false → find p (drop (i + 1) xs) ≡ find p (drop i xs)
@@ -106,84 +107,163 @@ pub arrives-none : (w : Waiting) (n : ℕ) (r : Option ℕ) (xs ys : List ℕ) �
 arrives-none w n r xs ys low high found is none same =
     arrives_more w n xs ys low high found (same ∙ (sym (append-nil xs) ∙ ap (λ (zs : List ℕ). xs ++ zs) (came_not (arrives w n) n (sym is ∙ none))))
 
--- the turns that may come, from initiators and commands by their numbers
-turns : List ℕ → List ℕ → List Pick
-turns froms cs = map Arrive froms ++ map Work cs
+-- the turns that may come, from initiators and commands by their numbers, and what comes behind them
+turns : List ℕ → List ℕ → List Pick → List Pick
+turns froms cs last = map Arrive froms ++ (map Work cs ++ last)
 
 map-twice : (ms : List Member) → map Work (map (λ (m : Member). m.task.c) ms) ≡ map (λ (m : Member). Work m.task.c) ms
 map-twice [] = refl
 map-twice (m ∷ ms) = ap (λ (rest : List Pick). Work m.task.c ∷ rest) (map-twice ms)
 
--- of the lists of what may come two can have members
-pub able-is : (s : Scene) (w : Waiting) → able s w ≡ map Arrive (filter (arrives w) initiators) ++ map (λ (m : Member). Work m.task.c) (filter (is_able s) s.hist.set)
-able-is s w = ap (λ (zs : List Pick). map Arrive (filter (arrives w) initiators) ++ zs) (append-nil (map (λ (m : Member). Work m.task.c) (filter (is_able s) s.hist.set)))
+-- of the lists of what may come three can have members
+pub able-is : (s : Scene) (w : Waiting)
+    → able s w ≡ map Arrive (filter (arrives w) initiators) ++ (map (λ (m : Member). Work m.task.c) (filter (is_able s) s.hist.set) ++ able_destage s w)
+able-is s w = refl
+
+-- and two where no destage is asked for
+pub able-quiet : (s : Scene) (w : Waiting) → w.destages ≡ false
+    → able s w ≡ map Arrive (filter (arrives w) initiators) ++ map (λ (m : Member). Work m.task.c) (filter (is_able s) s.hist.set)
+able-quiet s w quiet =
+    let commands : List Pick = map (λ (m : Member). Work m.task.c) (filter (is_able s) s.hist.set) in
+    ap (λ (b : Bool). map Arrive (filter (arrives w) initiators) ++ (commands ++ cond (b && is_some (destaged s)) (Destage ∷ []) [])) quiet
+    ∙ ap (λ (zs : List Pick). map Arrive (filter (arrives w) initiators) ++ zs) (append-nil commands)
 
 -- the turn of a number among them
 pub record Among (s : Scene) (w : Waiting) (froms cs : List ℕ) : Type 0 where
   pub arrivals : froms ≡ filter (arrives w) initiators
   pub commands : cs ≡ map (λ (m : Member). m.task.c) (filter (is_able s) s.hist.set)
 
+-- what may come behind commands is a destage
+only_destage : (t : Bool) → 0 < length (cond t (Destage ∷ []) []) → cond t (Destage ∷ []) [] ≡ Destage ∷ []
+only_destage true some = refl
+only_destage false some = absurd (omega arith)
+
 module _ (s : Scene) (w : Waiting) (froms cs : List ℕ) (among : Among s w froms cs) (x : ℕ) where
-  are : able s w ≡ turns froms cs
+  -- as many as may come
+  abbrev count : ℕ
+  count = length froms + length cs + length (able_destage s w)
+
+  are : able s w ≡ turns froms cs (able_destage s w)
   unfolding turns
   are =
-      able-is s w
-      ∙ (ap (λ (zs : List Pick). map Arrive (filter (arrives w) initiators) ++ zs) (sym (map-twice (filter (is_able s) s.hist.set)))
-      ∙ (ap (λ (zs : List ℕ). map Arrive (filter (arrives w) initiators) ++ map Work zs) (sym among.commands)
-      ∙ ap (λ (zs : List ℕ). map Arrive zs ++ map Work cs) (sym among.arrivals)))
+      ap (λ (zs : List Pick). map Arrive (filter (arrives w) initiators) ++ (zs ++ able_destage s w)) (sym (map-twice (filter (is_able s) s.hist.set)))
+      ∙ (ap (λ (zs : List ℕ). map Arrive (filter (arrives w) initiators) ++ (map Work zs ++ able_destage s w)) (sym among.commands)
+      ∙ ap (λ (zs : List ℕ). map Arrive zs ++ (map Work cs ++ able_destage s w)) (sym among.arrivals))
 
-  long : length (turns froms cs) ≡ length froms + length cs
+  long : length (turns froms cs (able_destage s w)) ≡ length froms + length cs + length (able_destage s w)
   unfolding turns
-  long = omega (arith, length-append (map Arrive froms) (map Work cs), length-map froms Arrive, length-map cs Work)
+  long = omega (
+    arith,
+    length-append (map Arrive froms) (map Work cs ++ able_destage s w),
+    length-append (map Work cs) (able_destage s w),
+    length-map froms Arrive,
+    length-map cs Work,
+  )
 
-  picks : picked s w x ≡ slice_get (turns froms cs) (x % (length froms + length cs))
+  picks : picked s w x ≡ slice_get (turns froms cs (able_destage s w)) (x % count)
   picks =
-      ap (λ (zs : List Pick). slice_get zs (x % length zs)) are ∙ ap (λ (n : ℕ). slice_get (turns froms cs) (x % n)) long
+      ap (λ (zs : List Pick). slice_get zs (x % length zs)) are ∙ ap (λ (n : ℕ). slice_get (turns froms cs (able_destage s w)) (x % n)) long
 
-  pub picks-arrival : (d : ℕ) → x % (length froms + length cs) < length froms → Some (Arrive (get_or froms (x % (length froms + length cs)) d)) ≡ picked s w x
+  -- none where none may come
+  pub picks-none : length froms + length cs + length (able_destage s w) ≡ 0 → None ≡ picked s w x
+  picks-none none = sym (picks ∙ empty (turns froms cs (able_destage s w)) (x % count) (long ∙ none))
+    where
+      empty : (zs : List Pick) (k : ℕ) → length zs ≡ 0 → slice_get zs k ≡ None
+      empty [] k is = refl
+      empty (z ∷ zs) k is = absurd (omega arith)
+
+  pub picks-arrival : (d : ℕ) → x % count < length froms → Some (Arrive (get_or froms (x % count) d)) ≡ picked s w x
   unfolding turns
   picks-arrival d low =
-      let k : ℕ = x % (length froms + length cs) in
-      let there : slice_get (turns froms cs) k ≡ Some (get_or (turns froms cs) k (Arrive d)) =
-      slice_get-get_or (turns froms cs) k (Arrive d) (omega (arith, long)) in
-      let left : get_or (turns froms cs) k (Arrive d) ≡ get_or (map Arrive froms) k (Arrive d) =
-      get_or_append_left (map Arrive froms) (map Work cs) (Arrive d) k (omega (arith, length-map froms Arrive)) in
+      let k : ℕ = x % count in
+      let there : slice_get (turns froms cs (able_destage s w)) k ≡ Some (get_or (turns froms cs (able_destage s w)) k (Arrive d)) =
+      slice_get-get_or (turns froms cs (able_destage s w)) k (Arrive d) (omega (arith, long)) in
+      let left : get_or (turns froms cs (able_destage s w)) k (Arrive d) ≡ get_or (map Arrive froms) k (Arrive d) =
+      get_or_append_left (map Arrive froms) (map Work cs ++ able_destage s w) (Arrive d) k (omega (arith, length-map froms Arrive)) in
       sym (picks ∙ (there ∙ ap Some (left ∙ get_or-map Arrive froms k d (Arrive d) low)))
 
-  pub picks-work : length froms ≤ x % (length froms + length cs) → x % (length froms + length cs) < length froms + length cs
-      → Some (Work (get_or cs (x % (length froms + length cs) - length froms) 0)) ≡ picked s w x
+  -- behind the arrivals
+  behind : (d : Pick) → length froms ≤ x % count → x % count < count → picked s w x ≡ Some (get_or (map Work cs ++ able_destage s w) (x % count - length froms) d)
   unfolding turns
-  picks-work past inside =
-      let k : ℕ = x % (length froms + length cs) in
-      let n : ℕ = x % (length froms + length cs) - length froms in
-      let there : slice_get (turns froms cs) k ≡ Some (get_or (turns froms cs) k (Work 0)) =
-      slice_get-get_or (turns froms cs) k (Work 0) (omega (arith, long)) in
+  behind d past inside =
+      let k : ℕ = x % count in
+      let n : ℕ = x % count - length froms in
+      let there : slice_get (turns froms cs (able_destage s w)) k ≡ Some (get_or (turns froms cs (able_destage s w)) k d) =
+      slice_get-get_or (turns froms cs (able_destage s w)) k d (omega (arith, long)) in
       let split : k ≡ length (map Arrive froms) + n = omega (arith, length-map froms Arrive) in
-      let right : get_or (turns froms cs) k (Work 0) ≡ get_or (map Work cs) n (Work 0) =
-      ap (λ (i : ℕ). get_or (map Arrive froms ++ map Work cs) i (Work 0)) split ∙ get_or-append-add (map Arrive froms) (map Work cs) n (Work 0) in
-      sym (picks ∙ (there ∙ ap Some (right ∙ get_or-map Work cs n 0 (Work 0) (omega arith))))
+      let right : get_or (turns froms cs (able_destage s w)) k d ≡ get_or (map Work cs ++ able_destage s w) n d =
+      ap (λ (i : ℕ). get_or (map Arrive froms ++ (map Work cs ++ able_destage s w)) i d) split ∙ get_or-append-add (map Arrive froms) (map Work cs ++ able_destage s w) n d in
+      picks ∙ (there ∙ ap Some right)
+
+  pub picks-work : length froms ≤ x % count → x % count < count → x % count - length froms < length cs
+      → Some (Work (get_or cs (x % count - length froms) 0)) ≡ picked s w x
+  picks-work past inside low =
+      let n : ℕ = x % count - length froms in
+      let left : get_or (map Work cs ++ able_destage s w) n (Work 0) ≡ get_or (map Work cs) n (Work 0) =
+      get_or_append_left (map Work cs) (able_destage s w) (Work 0) n (omega (arith, length-map cs Work)) in
+      sym (behind (Work 0) past inside ∙ ap Some (left ∙ get_or-map Work cs n 0 (Work 0) low))
+
+  pub picks-destage : length froms ≤ x % count → x % count < count → length cs ≤ x % count - length froms → Some Destage ≡ picked s w x
+  picks-destage past inside high =
+      let n : ℕ = x % count - length froms in
+      let only : able_destage s w ≡ Destage ∷ [] = only_destage (w.destages && is_some (destaged s)) (omega arith) in
+      let first : n ≡ length (map Work cs) + 0 = omega (arith, length-map cs Work, ap length only) in
+      let right : get_or (map Work cs ++ able_destage s w) n Destage ≡ get_or (able_destage s w) 0 Destage =
+      ap (λ (i : ℕ). get_or (map Work cs ++ able_destage s w) i Destage) first ∙ get_or-append-add (map Work cs) (able_destage s w) 0 Destage in
+      sym (behind Destage past inside ∙ ap Some (right ∙ ap (λ (zs : List Pick). get_or zs 0 Destage) only))
 
 -- the same, by what the calls of the walk say
-pub arrival-picked : (s : Scene) (w : Waiting) (x : ℕ) (froms cs ds : List ℕ) (a b n i : ℕ) → Among s w froms cs → a ≡ length froms → b ≡ length cs
-    → n ≡ length froms → ds ≡ froms → i ≡ get_or ds (x % (a + b)) i → x % (a + b) < n → Some (Arrive i) ≡ picked s w x
-arrival-picked s w x froms cs ds a b n i among a_is b_is n_is same is low =
-    let k_is : x % (a + b) ≡ x % (length froms + length cs) = λ j. x % (a_is j + b_is j) in
-    let at : i ≡ get_or froms (x % (length froms + length cs)) i = is ∙ (λ j. get_or (same j) (k_is j) i) in
-    ap (λ (v : ℕ). Some (Arrive v)) at ∙ picks-arrival s w froms cs among x i (omega (arith, k_is, low, n_is))
+pub record Counts (s : Scene) (w : Waiting) (froms cs : List ℕ) (a b l : ℕ) : Type 0 where
+  pub among : Among s w froms cs
+  pub arrivals : a ≡ length froms
+  pub commands : b ≡ length cs
+  pub destages : l ≡ length (able_destage s w)
 
-pub work-picked : (s : Scene) (w : Waiting) (x : ℕ) (froms cs ds : List ℕ) (a b n : ℕ) → Among s w froms cs → a ≡ length froms → b ≡ length cs
-    → n ≡ length froms → ds ≡ cs → n ≤ x % (a + b) → x % (a + b) < a + b → Some (Work (get_or ds (x % (a + b) - n) 0)) ≡ picked s w x
-work-picked s w x froms cs ds a b n among a_is b_is n_is same past inside =
-    let k_is : x % (a + b) ≡ x % (length froms + length cs) = λ j. x % (a_is j + b_is j) in
-    let at : get_or ds (x % (a + b) - n) 0 ≡ get_or cs (x % (length froms + length cs) - length froms) 0 = λ j. get_or (same j) (k_is j - n_is j) 0 in
+pub none-picked : (s : Scene) (w : Waiting) (x : ℕ) (froms cs : List ℕ) (a b l : ℕ) → Counts s w froms cs a b l → a + b + l ≡ 0 → None ≡ picked s w x
+none-picked s w x froms cs a b l counts none =
+    picks-none s w froms cs counts.among x (omega (arith, none, counts.arrivals, counts.commands, counts.destages))
+
+pub arrival-picked : (s : Scene) (w : Waiting) (x : ℕ) (froms cs ds : List ℕ) (a b l n i : ℕ) → Counts s w froms cs a b l
+    → n ≡ length froms → ds ≡ froms → i ≡ get_or ds (x % (a + b + l)) i → x % (a + b + l) < n → Some (Arrive i) ≡ picked s w x
+arrival-picked s w x froms cs ds a b l n i counts n_is same is low =
+    let k_is : x % (a + b + l) ≡ x % (length froms + length cs + length (able_destage s w)) = λ j. x % (counts.arrivals j + counts.commands j + counts.destages j) in
+    let at : i ≡ get_or froms (x % (length froms + length cs + length (able_destage s w))) i = is ∙ (λ j. get_or (same j) (k_is j) i) in
+    ap (λ (v : ℕ). Some (Arrive v)) at ∙ picks-arrival s w froms cs counts.among x i (omega (arith, k_is, low, n_is))
+
+work-picked : (s : Scene) (w : Waiting) (x : ℕ) (froms cs ds : List ℕ) (a b l n m : ℕ) → Counts s w froms cs a b l
+    → n ≡ length froms → m ≡ length cs → ds ≡ cs → n ≤ x % (a + b + l) → x % (a + b + l) < a + b + l → x % (a + b + l) - n < m
+    → Some (Work (get_or ds (x % (a + b + l) - n) 0)) ≡ picked s w x
+work-picked s w x froms cs ds a b l n m counts n_is m_is same past inside low =
+    let k_is : x % (a + b + l) ≡ x % (length froms + length cs + length (able_destage s w)) = λ j. x % (counts.arrivals j + counts.commands j + counts.destages j) in
+    let at : get_or ds (x % (a + b + l) - n) 0 ≡ get_or cs (x % (length froms + length cs + length (able_destage s w)) - length froms) 0 =
+    λ j. get_or (same j) (k_is j - n_is j) 0 in
     ap (λ (v : ℕ). Some (Work v)) at
-    ∙ picks-work s w froms cs among x (omega (arith, k_is, past, n_is)) (omega (arith, k_is, inside, a_is, b_is))
+    ∙ picks-work s w froms cs counts.among x (omega (arith, k_is, past, n_is)) (omega (arith, k_is, inside, counts.arrivals, counts.commands, counts.destages))
+    (omega (arith, k_is, low, n_is, m_is))
+
+destage-picked : (s : Scene) (w : Waiting) (x : ℕ) (froms cs : List ℕ) (a b l n m : ℕ) → Counts s w froms cs a b l
+    → n ≡ length froms → m ≡ length cs → n ≤ x % (a + b + l) → x % (a + b + l) < a + b + l → m ≤ x % (a + b + l) - n → Some Destage ≡ picked s w x
+destage-picked s w x froms cs a b l n m counts n_is m_is past inside high =
+    let k_is : x % (a + b + l) ≡ x % (length froms + length cs + length (able_destage s w)) = λ j. x % (counts.arrivals j + counts.commands j + counts.destages j) in
+    picks-destage s w froms cs counts.among x (omega (arith, k_is, past, n_is)) (omega (arith, k_is, inside, counts.arrivals, counts.commands, counts.destages))
+    (omega (arith, k_is, high, n_is, m_is))
+
+pub behind-picked : (s : Scene) (w : Waiting) (x : ℕ) (froms cs ds : List ℕ) (a b l n : ℕ) → Counts s w froms cs a b l
+    → n ≡ length froms → ds ≡ cs → n ≤ x % (a + b + l) → x % (a + b + l) < a + b + l
+    → Some (cond (ltb (x % (a + b + l) - n) (length ds)) (Work (get_or ds (x % (a + b + l) - n) 0)) Destage) ≡ picked s w x
+behind-picked s w x froms cs ds a b l n counts n_is same past inside = by (ltb (x % (a + b + l) - n) (length ds)) refl
+  where
+    by : (t : Bool) → ltb (x % (a + b + l) - n) (length ds) ≡ t → Some (cond t (Work (get_or ds (x % (a + b + l) - n) 0)) Destage) ≡ picked s w x
+    by true low =
+        work-picked s w x froms cs ds a b l n (length ds) counts n_is (ap length same) same past inside (ltb-true (x % (a + b + l) - n) (length ds) low)
+    by false high =
+        destage-picked s w x froms cs a b l n (length ds) counts n_is (ap length same) past inside (ltb-false (x % (a + b + l) - n) (length ds) high)
 
 -- a command picked where nothing waits outside
 pub any-picked : (s : Scene) (x n : ℕ) (cs : List ℕ) → cs ≡ map (λ (m : Member). m.task.c) (filter (is_able s) s.hist.set) → n ≡ length cs → 0 < n → x % n < n
     → Some (Work (get_or cs (x % n) 0)) ≡ picked s nothing_waiting x
 any-picked s x n cs is n_is some inside =
-    let all : able s nothing_waiting ≡ map Work cs = able-is s nothing_waiting ∙ sym (ap (map Work) is ∙ map-twice (filter (is_able s) s.hist.set)) in
+    let all : able s nothing_waiting ≡ map Work cs = able-quiet s nothing_waiting refl ∙ sym (ap (map Work) is ∙ map-twice (filter (is_able s) s.hist.set)) in
     let long : length (able s nothing_waiting) ≡ n = ap length all ∙ (length-map cs Work ∙ sym n_is) in
     let there : slice_get (map Work cs) (x % n) ≡ Some (get_or (map Work cs) (x % n) (Work 0)) =
     slice_get-get_or (map Work cs) (x % n) (Work 0) (omega (arith, length-map cs Work)) in

@@ -1,6 +1,6 @@
 -- Which turns may come, and why others are refused, in the order of the reasons.
 use Rattle.std.specs.Prelude.{ℕ, ◌-◌, ◌%◌, ◌&&◌, ◌||◌, nat_le, Bool, true, false, if◌then◌else◌, List, [], ◌∷◌, ◌++◌, map, filter, length, slice_get, slice_index_or, Option, Some, None, fold}
-use Rattle.std.specs.Option.{option_map, option_map_or, option_and_then, is_none, option_or}
+use Rattle.std.specs.Option.{option_map, option_map_or, option_and_then, is_none, is_some, option_or}
 use Rattle.task_set.specs.declared.member.Member.{Member}
 use Rattle.task_set.specs.Members.{member_of, first_forbidding}
 use Rattle.platter_model.specs.TrueLog.{is_off}
@@ -14,7 +14,7 @@ use Rattle.drive_scene.specs.declared.answer.Waiting.{Waiting}
 use Rattle.drive_scene.specs.declared.answer.Pick.{Pick}
 use Rattle.drive_scene.specs.declared.answer.Pick.TheVariants as pick
 use Rattle.drive_scene.specs.Scene.{Scene}
-use Rattle.drive_scene.specs.Holds.{holder_besides, needed_block}
+use Rattle.drive_scene.specs.Holds.{holder_besides, needed_block, destaged}
 use Rattle.drive_scene.specs.Run.{Run, scene_of}
 use Rattle.drive_scene.specs.Evidence.{lba}
 
@@ -54,15 +54,16 @@ able_arrivals w = map pick.Arrive (filter (arrives w) initiators)
 abbrev pub able_commands : Scene → List Pick
 able_commands s = map (λ m. pick.Work m.task.c) (filter (is_able s) s.hist.set)
 
--- moves, by number; the scan; destages: none of these comes so far
+-- moves, by number, and the scan: none of these comes so far
 abbrev pub able_jobs : Scene → List Pick
 able_jobs s = []
 
 abbrev pub able_scan : Scene → Waiting → List Pick
 able_scan s w = []
 
+-- a destage, where one is asked for and a block may be destaged
 abbrev pub able_destage : Scene → Waiting → List Pick
-able_destage s w = []
+able_destage s w = if w.destages && is_some (destaged s) then pick.Destage ∷ [] else []
 
 -- the turns that may come, in their order
 abbrev pub able : Scene → Waiting → List Pick
@@ -88,6 +89,7 @@ pick_of r w x = if is_off r.ops || is_spent r then None else picked (scene_of r)
 abbrev pub refusal_on : Scene → ℕ → Event → Option TurnAnswer
 refusal_on s coming (event.Work c) = refusal_of_work s coming c
 refusal_on s coming (event.Any x) = option_map_or (λ p. None) (picked s nothing_waiting x) (Some (answer.Idle coming))
+refusal_on s coming event.Destage = if is_some (destaged s) then None else Some (answer.Idle coming)
 refusal_on s coming other = None
 
 abbrev pub needs_power : Event → Bool

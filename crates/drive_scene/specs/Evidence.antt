@@ -25,7 +25,6 @@ use Rattle.cdb_reader.specs.Replies.{medium_error}
 use Rattle.command_engine.specs.Ending.{report_of}
 use Rattle.block_machine.specs.declared.entry.Entry.{Entry}
 use Rattle.block_machine.specs.declared.entry.Entry.TheVariants.{Get, Put, Harden, GiveUp, Page, Ended, Scanned, Logged, Cut, PoweredOn, Blank, Fresh}
-use Rattle.block_machine.specs.declared.entry.Who.TheVariants.{Command, Drive}
 use Rattle.block_machine.specs.Blocks.{is_dirty, newest}
 use Rattle.block_machine.specs.State.{State, owed_by}
 use Rattle.drive_scene.specs.Scene.{Scene, Beat, windows_with, scene_after}
@@ -115,11 +114,10 @@ page_of m asks planned = planned
 -- what a turn's operations show of one of its entries, from the state before that entry
 abbrev pub Shows : Scene → Beat → State → Entry → Type 0
 Shows s t h (Get c b v) = IsGot s (window_now s t c) (settings_now s t c) h c b v
-Shows s t h (Harden (Command c) b) = (v : Value) → newest (h.blocks b.0) ≡ Some v → WritesBlock s.map b v t.ops
+Shows s t h (Harden who b) = (v : Value) → newest (h.blocks b.0) ≡ Some v → WritesBlock s.map b v t.ops
 Shows s t h (Page c bytes) = bytes ≡ page_of s.map (h.duties c).asks bytes
 Shows s t h (Ended c reply) = IsEndShown s t c (owed_by h c) reply
 -- no move, scan, cut or format comes yet
-Shows s t h (Harden Drive b) = ⊥
 Shows s t h (GiveUp b) = ⊥
 Shows s t h (Scanned b what) = ⊥
 Shows s t h (Logged finding) = ⊥

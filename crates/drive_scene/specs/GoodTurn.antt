@@ -7,6 +7,7 @@ use Rattle.disk_base.specs.Along.{Along, all_along}
 use Rattle.disk_base.specs.declared.address.Lba.{Lba}
 use Rattle.disk_base.specs.declared.address.Psn.{Psn}
 use Rattle.disk_base.specs.declared.block.Value.{Value}
+use Rattle.disk_base.specs.declared.block.Value.TheVariants.{Data}
 use Rattle.disk_base.specs.declared.payload.Payload.{Payload}
 use Rattle.platter_model.specs.declared.op.Op.{Op}
 use Rattle.platter_model.specs.declared.op.Op.TheVariants as op
@@ -28,12 +29,12 @@ use Rattle.block_machine.specs.declared.entry.Who.TheVariants as who
 use Rattle.block_machine.specs.declared.turn.Label.{Label}
 use Rattle.block_machine.specs.declared.turn.Label.TheVariants.{Arrive, Work}
 use Rattle.block_machine.specs.declared.turn.Label.TheVariants as label
-use Rattle.block_machine.specs.Blocks.{Blocks, allowed, same_value}
+use Rattle.block_machine.specs.Blocks.{Blocks, allowed, same_value, newest}
 use Rattle.block_machine.specs.Steps.{begun, entry_after}
 use Rattle.block_machine.specs.Turns.{entries_lawful, blocks_lawful}
 use Rattle.drive_scene.specs.Scene.{Scene, Beat, capacity, scene_after}
 use Rattle.drive_scene.specs.Evidence.{Shows, IsNextTry}
-use Rattle.drive_scene.specs.Holds.{holder_besides}
+use Rattle.drive_scene.specs.Holds.{holder_besides, destaged}
 
 -- while no operation is a stray, each map that recovery may take has for each block a value that the history allows it
 abbrev pub IsAllowed : Blocks → Lba → Value → Type 0
@@ -95,14 +96,24 @@ IsWorldStep off (world.Minutes n) entries ops = (entries ≡ (if off then [] els
 IsWorldStep off world.Cut entries ops = ⊥
 IsWorldStep off world.Power entries ops = ⊥
 
--- a turn's operations are those of one step, and it isn't empty; no move, scan or destage comes yet
+-- a destage writes the newest data of the oldest dirty block that nobody holds to the block's place, and tells that the drive hardened it.
+-- A write that failed or was torn comes later
+pub record IsDestageTurn (s : Scene) (entries : List Entry) (ops : List Op) : Type 0 where
+  pub b : Lba
+  pub bytes : List ℕ
+  pub is_next : destaged s ≡ Some b.0
+  pub newest : newest (s.hist.blocks b.0) ≡ Some (Data bytes)
+  pub told : entries ≡ Harden who.Drive b ∷ []
+  pub wrote : ops ≡ op.Wrote (placed s.map b bytes) ∷ []
+
+-- a turn's operations are those of one step, and it isn't empty; no move and no scan comes yet
 abbrev pub IsStep : Scene → Label → List Entry → List Op → Type 0
 IsStep s (Arrive i) entries ops = ops ≡ []
 IsStep s (label.World w) entries ops = IsWorldStep (is_off s.ops) w entries ops
 IsStep s (Work c) entries ops = IsTrue (is_one_step (length s.ops) ops) × IsTrue (not (length ops == 0) || not (length entries == 0))
 IsStep s (label.Job j) entries ops = ⊥
 IsStep s label.Scan entries ops = ⊥
-IsStep s label.Destage entries ops = ⊥
+IsStep s label.Destage entries ops = IsDestageTurn s entries ops
 
 -- a turn begins with the power on, but for what happens from outside
 abbrev pub IsPowered : Scene → Label → Type 0
@@ -128,9 +139,9 @@ abbrev pub IsFree : Scene → Label → Lba → Type 0
 IsFree s (Arrive i) b = Unit {0}
 IsFree s (label.World w) b = Unit {0}
 IsFree s (Work c) b = holder_besides s (Work c) b.0 ≡ None
+IsFree s label.Destage b = holder_besides s label.Destage b.0 ≡ None
 IsFree s (label.Job j) b = ⊥
 IsFree s label.Scan b = ⊥
-IsFree s label.Destage b = ⊥
 
 -- the turn has an entry on a block, or an operation at its place
 abbrev pub is_about : Scene → Beat → Lba → Bool
@@ -183,14 +194,14 @@ are_in_order entries = all_along (λ before e. rank e) may_follow 0 entries
 abbrev pub IsMapped : Scene → Type 0
 IsMapped s = is_off s.ops ≡ false → s.hist.corrupt ≡ false → IsPresent (meant_on s.ops) s.map × MayBeRecovered s.map.size s.ops s.map
 
--- a turn of work has entries of its command alone
+-- a turn of work has entries of its command alone; those of a destage are told by its step
 abbrev pub AreOwn : Label → List Entry → Type 0
 AreOwn (Work c) entries = IsTrue (list_all (is_entry_of c) entries)
 AreOwn (Arrive i) entries = Unit {0}
 AreOwn (label.World w) entries = Unit {0}
+AreOwn label.Destage entries = Unit {0}
 AreOwn (label.Job j) entries = ⊥
 AreOwn label.Scan entries = ⊥
-AreOwn label.Destage entries = ⊥
 
 -- a payload is the data of one of the map's blocks, for its place
 abbrev pub IsBlockData : DefectMap → Payload → Type 0

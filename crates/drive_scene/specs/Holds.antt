@@ -1,7 +1,7 @@
 -- Which blocks are held from one turn to the next, and which a command needs.
 use Rattle.std.specs.Prelude.{◌≡◌, ℕ, ◌-◌, ◌==◌, ◌&&◌, ◌||◌, not, nat_lt, Bool, false, if◌then◌else◌, List, find, length, Option, Some, None}
 use Rattle.std.specs.List.{range_with_len}
-use Rattle.std.specs.Option.{option_map, option_map_or, option_and_then}
+use Rattle.std.specs.Option.{option_map, option_map_or, option_and_then, is_none}
 use Rattle.platter_model.specs.declared.op.Op.{Op}
 use Rattle.cdb_reader.specs.declared.plan.Plan.{Plan}
 use Rattle.cdb_reader.specs.declared.plan.Plan.TheVariants.{Reading, Writing, Syncing}
@@ -9,7 +9,7 @@ use Rattle.block_machine.specs.Blocks.{Blocks, is_dirty}
 use Rattle.block_machine.specs.State.{owed_by}
 use Rattle.drive_scene.specs.Scene.{Scene}
 use Rattle.block_machine.specs.declared.turn.Label.{Label}
-use Rattle.block_machine.specs.declared.turn.Label.TheVariants.{Work}
+use Rattle.block_machine.specs.declared.turn.Label.TheVariants.{Work, Destage}
 use Rattle.drive_scene.specs.declared.event.Holder.{Holder}
 use Rattle.drive_scene.specs.declared.event.Holder.TheVariants.{Command}
 
@@ -40,6 +40,10 @@ command_besides s label b = option_map (λ m. m.task.c) (find (λ m. not (works_
 -- who else than a turn's own holds a block: a command is all that does so far
 abbrev pub holder_besides : Scene → Label → ℕ → Option Holder
 holder_besides s label b = option_map Command (command_besides s label b)
+
+-- the block that a destage writes: the one that is dirty for the longest time, of those that nobody holds and whose destage didn't fail
+abbrev pub destaged : Scene → Option ℕ
+destaged s = find (λ b. not (s.back.stuck b) && is_none (holder_besides s Destage b)) s.hist.dirty
 
 -- no two commands hold one block
 abbrev pub IsApart : Scene → Type 0

@@ -1,5 +1,5 @@
 -- The kinds of turns: when each may come, and the history after it.
-use Rattle.std.specs.Prelude.{◌≡◌, ℕ, ◌<◌, true, List, [], ◌∷◌, ◌++◌, length, Some, None, All}
+use Rattle.std.specs.Prelude.{◌≡◌, ℕ, ◌<◌, ◌≤◌, true, List, [], ◌∷◌, ◌++◌, length, Some, None, All}
 use Rattle.std.specs.List.{list_any}
 use Rattle.disk_base.specs.At.{put_at}
 use Rattle.disk_base.specs.declared.address.Lba.{Lba}
@@ -13,14 +13,16 @@ use Rattle.sector_store.specs.Stored.{StoresAt, KeepsOthers, KeepsBlocks}
 use Rattle.sector_store.specs.State.{placed}
 use Rattle.block_machine.specs.declared.entry.Entry.{Entry}
 use Rattle.block_machine.specs.declared.entry.Entry.TheVariants.{Harden, Put, Passed, Get}
-use Rattle.block_machine.specs.declared.entry.Who.TheVariants.{Command}
-use Rattle.block_machine.specs.declared.turn.Label.TheVariants.{Work}
-use Rattle.block_machine.specs.Blocks.{Blocks, newest, after_harden}
+use Rattle.block_machine.specs.declared.entry.Who.TheVariants.{Command, Drive}
+use Rattle.block_machine.specs.declared.turn.Label.TheVariants.{Work, Destage}
+use Rattle.block_machine.specs.Blocks.{Blocks, newest, after_harden, without_address}
 use Rattle.block_machine.specs.State.{State}
 use Rattle.block_machine.specs.Steps.{begun, entry_after}
-use Rattle.drive_scene.specs.Scene.{Scene, capacity}
-use Rattle.drive_scene.specs.Holds.{holder_besides}
-use Rattle.drive_scene.specs.GoodTurn.{IsStood, WritesBlockData, is_at_sector, is_one_step}
+use Rattle.drive_scene.specs.Scene.{Scene, Beat, capacity, beat, scene_after}
+use Rattle.drive_scene.specs.Holds.{holder_besides, destaged}
+use Rattle.drive_scene.specs.Present.{IsPresentMap}
+use Rattle.drive_scene.specs.Still.{IsStanding}
+use Rattle.drive_scene.specs.GoodTurn.{IsStood, WritesBlockData, is_at_sector, is_one_step, window_at_most}
 
 -- a command hardens a block of which these are the newest data: nobody else holds it, what stands is what is allowed, and the write
 -- stores the data at its place and changes no other block
@@ -77,3 +79,31 @@ pub record AreQuietAt (s : Scene) (b : Lba) (ops : List Op) : Type 0 where
 -- the history after a get
 abbrev pub got_state : Scene → ℕ → Lba → Value → State
 got_state s c b v = entry_after (capacity s) (Work c) (begun s.hist (Work c)) (Get c b v)
+
+-- the turn in which the drive destages a block of which these are the newest data
+abbrev pub destage_of : Scene → Lba → List ℕ → Beat
+destage_of s b bytes = beat Destage (Harden Drive b ∷ []) (Wrote (placed s.map b bytes) ∷ [])
+
+-- the drive may destage a block of which these are the newest data: it is the next one, the power is on and what is stored stands, and
+-- the write stores the data at the block's place, changes no other block and leaves the map there
+pub record MayDestage (s : Scene) (b : Lba) (bytes : List ℕ) : Type 0 where
+  pub size : s.map.size ≡ s.size
+  pub below : b.0 < capacity s
+  pub is_next : destaged s ≡ Some b.0
+  pub newest : newest (s.hist.blocks b.0) ≡ Some (Data bytes)
+  pub own_sector : (q : Lba) → q.0 < capacity s → place_of s.map q ≡ place_of s.map b → q ≡ b
+  pub standing : IsStanding s
+  pub windows : (q : ℕ) → length (s.windows q) ≤ window_at_most
+  pub stores : StoresAt s.map (s.ops ++ Wrote (placed s.map b bytes) ∷ []) b (Data bytes)
+  pub keeps : KeepsOthers s.map s.ops (s.ops ++ Wrote (placed s.map b bytes) ∷ []) b
+  pub present : IsPresentMap s.map (s.ops ++ Wrote (placed s.map b bytes) ∷ [])
+
+-- after it the block alone isn't dirty any more, commands stand as before, and no block became stuck
+pub record IsAfterDestage (s t : Scene) (b : Lba) : Type 0 where
+  pub size : t.size ≡ s.size
+  pub map : t.map ≡ s.map
+  pub hist : t.hist ≡ record s.hist { blocks = hardened_blocks s b; dirty = without_address b.0 s.hist.dirty }
+  pub windows : t.windows ≡ s.windows
+  pub settings : t.settings ≡ s.settings
+  pub recovered : t.recovered ≡ s.recovered
+  pub stuck : t.back.stuck ≡ s.back.stuck

@@ -24,7 +24,7 @@ use Rattle.block_machine.specs.declared.entry.Entry.{Entry}
 use Rattle.block_machine.specs.declared.entry.Entry.TheVariants.{Get, Put, Harden, Passed, Ended}
 use Rattle.block_machine.specs.declared.entry.Who.TheVariants.{Command}
 use Rattle.block_machine.specs.declared.turn.Label.{Label}
-use Rattle.block_machine.specs.declared.turn.Label.TheVariants.{Work, World}
+use Rattle.block_machine.specs.declared.turn.Label.TheVariants.{Work, Destage, World}
 use Rattle.block_machine.specs.Blocks.{blocks_at_start, is_dirty, none_dirty, may_get}
 use Rattle.block_machine.specs.Deeds.{is_crowded, names_dirty}
 use Rattle.block_machine.specs.Entries.{ends_as_told}
@@ -38,7 +38,7 @@ use Rattle.drive_scene.specs.Holds.{holder_besides}
 use Rattle.drive_scene.specs.Present.{IsPresentMap}
 use Rattle.drive_scene.specs.GoodTurn.{GoodTurn, IsStood, AreTriesShown}
 use Rattle.drive_scene.specs.Half.{Half, IsReady}
-use Rattle.drive_scene.specs.Kinds.{IsHarden, IsPut, IsPutThrough, AreQuietAt, got_state, put_state, through_state, passed_state}
+use Rattle.drive_scene.specs.Kinds.{destage_of, MayDestage, IsAfterDestage, IsHarden, IsPut, IsPutThrough, AreQuietAt, got_state, put_state, through_state, passed_state}
 use Rattle.drive_scene.specs.Still.{IsStill, IsStanding}
 
 -- a turn without operations that is about no block is good: an arrival, a function, a start, minutes
@@ -118,6 +118,15 @@ abbrev pub PassesAreHalves : Type 0
 PassesAreHalves = (s : Scene) (c : ℕ) (from to : Lba) (plan then_plan : Plan) → IsStood s.map s.ops s.hist.blocks → owed_by s.hist c ≡ Some plan
     → next plan (deed.Passed from to) ≡ Some then_plan → to.0 ≤ capacity s → none_dirty s.hist.blocks from.0 to.0 ≡ true
     → Half s c [] (Passed c from to ∷ []) (passed_state s c from to) then_plan
+
+-- the drive destages a block
+abbrev pub DestagesAreGood : Type 0
+DestagesAreGood = (s : Scene) (b : Lba) (bytes : List ℕ) → MayDestage s b bytes
+    → GoodTurn s (destage_of s b bytes) × IsAfterDestage s (scene_after s (destage_of s b bytes)) b
+
+-- and leaves commands as they were, so what is left to do for them, too
+abbrev pub DestagesLeaveCommands : Type 0
+DestagesLeaveCommands = (s : Scene) (t : Beat) → t.label ≡ Destage → GoodTurn s t → (b : Lba) × IsAfterDestage s (scene_after s t) b
 
 -- turns leave the map and the measures as they were
 abbrev pub MapsStay : Type 0

@@ -1,3 +1,4 @@
+pub mod Background
 pub mod Scene
 pub mod View
 pub mod Evidence
@@ -5,9 +6,14 @@ pub mod Holds
 pub mod Present
 pub mod GoodTurn
 pub mod Half
-pub mod Kinds
 pub mod Still
+pub mod Kinds
 pub mod Laws
+pub mod Carried
+pub mod CommitTurn
+pub mod MoveTurn
+pub mod Flights
+pub mod CommitTasks
 pub mod Run
 pub mod Ending
 pub mod Able

@@ -1,5 +1,5 @@
 -- What the turns of a drive have come to, and one turn more.
-use Rattle.std.specs.Prelude.{ℕ, ◌-◌, ◌==◌, Bool, false, if◌then◌else◌, List, [], ◌++◌, map, fold, length, slice_get, Option, Some, None}
+use Rattle.std.specs.Prelude.{ℕ, ◌+◌, ◌-◌, ◌==◌, Bool, false, if◌then◌else◌, List, [], ◌∷◌, ◌++◌, map, fold, length, slice_get, Option, Some, None}
 use Rattle.std.specs.List.{list_any}
 use Rattle.std.specs.Option.{option_map_or, option_and_then}
 use Rattle.disk_base.specs.At.{put_at}
@@ -23,7 +23,9 @@ use Rattle.block_machine.specs.declared.turn.Label.TheVariants.{Arrive, Work, Jo
 use Rattle.block_machine.specs.Attentions.{attentions_at_start}
 use Rattle.block_machine.specs.State.{State, state_at_start}
 use Rattle.block_machine.specs.Steps.{begun, entries_after}
+use Rattle.move_jobs.specs.Job as move_job
 use Rattle.drive_scene.specs.declared.made.Made.{Made}
+use Rattle.drive_scene.specs.Background.{Flight, Background, background_at_start, flights_by, step_by, stuck_by, logged_by_op, logged_by, given_up_by}
 
 -- one turn with its own operations
 pub record Beat : Type 0 where
@@ -36,7 +38,7 @@ beat label entries ops = record { label = label; entries = entries; ops = ops }
 
 -- the drive's measures; the map by which blocks lie; all operations; what the history has come to; of each command its window, the operations of its
 -- turns of work since it last got, put or hardened a block, or started; the mode values with which it started; and the last
--- block that it got past the plain read. Then all operations and entries since the power came on
+-- block that it got past the plain read. Then all operations and entries since the power came on, and what is in hand beside commands
 pub record Scene : Type 0 where
   pub size : Size
   pub map : DefectMap
@@ -47,6 +49,7 @@ pub record Scene : Type 0 where
   pub recovered : ℕ → Option Recovery
   pub since : List Op
   pub entries : List Entry
+  pub back : Background
 
 abbrev pub capacity : Scene → ℕ
 capacity s = capacity_of s.size
@@ -67,6 +70,7 @@ scene_at_start made = record {
   recovered = λ c. None;
   since = factory_ops made;
   entries = [];
+  back = background_at_start;
 }
 
 -- an entry with which a command's window begins anew
@@ -90,10 +94,10 @@ abbrev pub windows_by : Label → (ℕ → List Op) → Beat → ℕ → List Op
 windows_by (Work c) windows t = put_at c (window_after c (windows c) t) windows
 windows_by (Arrive i) windows t = fold with_arrival windows t.entries
 windows_by (World w) windows t = windows
+windows_by Destage windows t = windows
 -- none of these comes yet
 windows_by (Job j) windows t = windows
 windows_by Scan windows t = windows
-windows_by Destage windows t = windows
 
 -- a command starts with these mode values
 abbrev pub settings_by : Settings → (ℕ → Settings) → Entry → ℕ → Settings
@@ -125,6 +129,28 @@ abbrev pub windows_with : Label → (ℕ → List Op) → List Op → ℕ → Li
 windows_with (Work c) windows ops = put_at c (windows c ++ ops) windows
 windows_with label windows ops = windows
 
+-- the move that a turn opens: nothing opens one yet
+abbrev pub opening : Scene → Beat → Option move_job.Job
+opening s t = None
+
+-- moves get numbers in the order in which they are opened
+abbrev pub flight : ℕ → move_job.Job → Flight
+flight j job = record { j = j; job = job }
+
+-- what is in hand after a turn. No turn of a move, of the scan or of a destage that failed comes yet: the first answers its job and
+-- counts for its owner, the second goes on with its step, the third marks its block as stuck
+abbrev pub background_after : Scene → Beat → Background
+background_after s t = record {
+  opened = option_map_or (λ job. s.back.opened + 1) (opening s t) s.back.opened;
+  flights = fold flights_by (option_map_or (λ job. s.back.flights ++ flight (s.back.opened + 1) job ∷ []) (opening s t) s.back.flights) t.entries;
+  moved = s.back.moved;
+  short = s.back.short;
+  step = fold step_by s.back.step t.entries;
+  stuck = fold stuck_by s.back.stuck t.entries;
+  logged = fold logged_by (fold (logged_by_op s.map) s.back.logged t.ops) t.entries;
+  given_up = fold given_up_by s.back.given_up t.entries;
+}
+
 -- what the turns have come to after one more
 abbrev pub scene_after : Scene → Beat → Scene
 scene_after s t = record {
@@ -137,4 +163,5 @@ scene_after s t = record {
   recovered = fold (recovered_by (windows_with t.label s.windows t.ops)) s.recovered t.entries;
   since = s.since ++ t.ops;
   entries = s.entries ++ t.entries;
+  back = background_after s t;
 }

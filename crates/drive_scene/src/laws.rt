@@ -1,6 +1,6 @@
 //! What each kind of turn comes to, and what a factory leaves: laws, each the clause of a function that changes nothing.
 
-ghost use Rattle.drive_scene.specs.Laws.{StillTurnsAreGood, DamageTurnsAreGood, HalvesAreGood, TriesAreHalves, GetsAreHalves, PutsAreHalves, PutsThroughAreHalves, HardensAreHalves, PassesToHardenAreHalves, PassesAreHalves, MapsStay, FactoriesLeaveZeros};
+ghost use Rattle.drive_scene.specs.Laws.{StillTurnsAreGood, DamageTurnsAreGood, HalvesAreGood, TriesAreHalves, GetsAreHalves, PutsAreHalves, PutsThroughAreHalves, HardensAreHalves, PassesToHardenAreHalves, PassesAreHalves, DestagesAreGood, DestagesLeaveCommands, MapsStay, FactoriesLeaveZeros};
 
 use geometry_map::two_blocks_are_never_at_one_sector;
 
@@ -52,6 +52,16 @@ pub fn passes_to_harden_are_halves()
 /// SYNCHRONIZE CACHE passes over the rest of its range.
 pub fn passes_are_halves()
     ensures { PassesAreHalves }
+{}
+
+/// The drive writes the newest data of the next block to destage to its place, on its own.
+pub fn destages_are_good()
+    ensures { DestagesAreGood }
+{}
+
+/// A destage leaves commands as they were, and one block hardened.
+pub fn destages_leave_commands()
+    ensures { DestagesLeaveCommands }
 {}
 
 /// Turns leave the map and the measures as they were.

@@ -2,7 +2,7 @@ use Rattle.std.proofs.Common.{◌≡◌, ◌∙◌, ◌++◌, ◌∷◌, [], ref
 use Rattle.block_machine.specs.declared.entry.Entry.TheVariants.{Ended}
 use Rattle.drive_core.specs.declared.server.Server.{Server}
 use Rattle.sector_store.specs.declared.answer.StoreAnswer.TheVariants.{Done}
-use Rattle.drive_core.proofs.Hardens.{turn_moves, may_harden}
+use Rattle.drive_core.proofs.Hardens.{turn_moves, may_harden, meets_dirty}
 use Rattle.drive_core.proofs.Written.{answered-done}
 use Rattle.drive_core.proofs.hardening.harden.Goals as goal
 
@@ -13,6 +13,9 @@ pub carried_out-requires : goal.carried_out-requires
 carried_out-requires c =
     answered-done c.args.server.now.store c.args.b c.write_dirty.result c.write_dirty.ensures.answer
     (may_harden c.requires.may.0 c.args.server.now c.args.c c.args.b c.args.entries.now.items c.requires.may.1)
+
+pub hardened-reply-requires : goal.hardened-reply-requires
+hardened-reply-requires c = meets_dirty c.requires.may.0 c.args.server.now c.args.c c.args.b c.args.entries.now.items c.requires.may.1
 
 pub returns : goal.returns
 returns c = record {

@@ -17,7 +17,7 @@ use Rattle.drive_core.proofs.Fitting.{retry-known}
 use Rattle.drive_core.proofs.StartTurns.{MayStart, may_start, IsStartOf, start_of, begins_with_reply, begins_with_change, plan_of_start, both_replaced, is_in-known, is_in-started, starts_and_ends, told-known, told-warned}
 use Rattle.drive_core.proofs.StartPages.{begins_to_give, starts_and_gives}
 use Rattle.drive_core.proofs.ModeTurns.{changes, good_is, known_changed, starts_and_changes}
-use Rattle.drive_core.proofs.StartKinds.{BeginsOn, begins_on, range_on, unmoved_on, sent_on, starts_on}
+use Rattle.drive_core.proofs.StartKinds.{BeginsOn, begins_on, range_on, sent_on, starts_on}
 use Rattle.disk_base.specs.declared.command.DataOut.{DataOut}
 use Rattle.drive_core.proofs.starting.start.Goals as goal
 
@@ -69,12 +69,6 @@ new-requires-clause-data_length c =
     let sent = sent_on c.requires.may.0 c.args.server.now c.args.c (request_of c.in-Work.command) c.take_sent-sent.result on
     (c.take_sent-sent.ensures.sent on.may.a on.may.a_is) in
     ap (λ (x : DataOut). has_data (request_of c.in-Work.command) x) sent ∙ on.with_data
-
-pub new-requires-clause-unmoved : goal.new-requires-clause-unmoved
-new-requires-clause-unmoved c =
-    unmoved_on c.requires.may.0 c.args.server.now c.args.c (request_of c.in-Work.command)
-    (begins_on c.requires.may.0 c.args.server.now c.args.c c.in-Work.command c.in_ok-first.first c.requires.may.1 c.requires.waiting
-    (c.in_ok-first.ensures c.requires.may.0 c.requires.may.1) c.in-Work.is)
 
 pub returns-in-Reply-clause-moves : goal.returns-in-Reply-clause-moves
 returns-in-Reply-clause-moves c s work =

@@ -30,3 +30,6 @@ make_work_turn-requires-clause-entry_room c = room_of_four c.args.event (vec_cap
 
 pub make_work_turn-requires-in-Some-clause-entry_room : goal.make_work_turn-requires-in-Some-clause-entry_room
 make_work_turn-requires-in-Some-clause-entry_room c = room_of_four c.args.event (vec_capacity c.args.entries.now) c.requires.entry_room
+
+pub destage-requires-clause-may : goal.destage-requires-clause-may
+destage-requires-clause-may c = (c.requires.may.0, subst (λ (e : Event). MayCome c.requires.may.0 c.args.server.now e) c.in-Destage.is c.requires.may.1)
