@@ -16,8 +16,9 @@ usage: drive run < SCRIPT             carries the script out and writes its repo
 
 A script has lines of words parted by one space. Served so far are
     disk C H S R, primary P    the measures of the drive and its defects, first of all
-    cmd I TAG A CDB [DATA]     a command of initiator I, 1 to 8, with attribute A, S, O or H; any but REASSIGN BLOCKS and MODE SELECT
+    cmd I TAG A CDB [DATA]     a command of initiator I, 1 to 8, with attribute A, S, O or H; any but REASSIGN BLOCKS
     abort I TAG, abortset I, clear I, reset I    a task management function of initiator I
+    destage N                  up to N blocks of the cache are written out in the background
     go                         what waits is carried out, as it is at the end
     damage P F L LASTING EFFECT    samples of a sector are lost or changed
     minutes N                  so many minutes pass

@@ -26,6 +26,8 @@ use Rattle.drive_scene.specs.declared.event.Arrival.{Arrival as Sent}
 use Rattle.drive_scene.specs.declared.event.Arrival.TheVariants.{Command, Function}
 use Rattle.drive_scene.specs.Scene.{Scene, capacity, scene_after, with_arrival}
 use Rattle.script_runner.specs.Arrivals.{Sends, arriving}
+use Rattle.script_runner.specs.Wanted.{Wanted}
+use Rattle.script_runner.specs.Phasing.{TakesArrival}
 use Rattle.script_runner.specs.Measure.{steps_asked, turns_left, sum_upto, turns_of_arrival, turns_to_send, turns_of_phase}
 use Rattle.script_runner.specs.Each.{Each}
 use Rattle.script_runner.proofs.Entries.{IsNoArrival, answered, aborted, arrived_same}
@@ -111,17 +113,18 @@ sent_lower blocks sends left i a low high first others =
     (λ j ne. ap (sum_by (turns_of_arrival blocks)) (others j ne))
 
 -- the turn of a command that arrives
-pub arrival_lower : (s : Scene) (sends left : Sends) (i c : ℕ) (t : Tag) (a : Attribute) (cdb : List ℕ) (sent : DataOut) (rest : List Entry) (ops : List Op)
-    → c ≡ s.hist.arrived + 1 → is_answered (is_full s.hist) c rest ≡ true → 1 ≤ i → i ≤ 8 → sends i ≡ Command (arriving i t a cdb sent) ∷ left i → ((j : ℕ) → j ≢ i → left j ≡ sends j)
-    → turns_of_phase (scene_after s (record { label = label.Arrive i; entries = Arrived c i t a cdb sent ∷ rest; ops = ops })) left < turns_of_phase s sends
-arrival_lower s sends left i c t a cdb sent rest ops next ok low high first others =
+pub arrival_lower : (s : Scene) (wanted left : Wanted) (i c : ℕ) (t : Tag) (a : Attribute) (cdb : List ℕ) (sent : DataOut) (rest : List Entry) (ops : List Op)
+    → c ≡ s.hist.arrived + 1 → is_answered (is_full s.hist) c rest ≡ true → 1 ≤ i → i ≤ 8 → TakesArrival wanted i (Command (arriving i t a cdb sent)) left
+    → turns_of_phase (scene_after s (record { label = label.Arrive i; entries = Arrived c i t a cdb sent ∷ rest; ops = ops })) left < turns_of_phase s wanted
+arrival_lower s wanted left i c t a cdb sent rest ops next ok low high takes =
     let blocks = capacity s in
     let k = scene_after s (record { label = label.Arrive i; entries = Arrived c i t a cdb sent ∷ rest; ops = ops }) in
     let it = comes blocks i s.hist c i t a cdb sent (is_full s.hist) rest ok in
     let quiet = answered (is_full s.hist) c rest ok in
     let window : (j : ℕ) → (j ≡ c → ⊥) → k.windows j ≡ s.windows j =
     λ j ne. ap (λ (w : ℕ → List Op). w j) (no_window (put_at c [] s.windows) rest quiet) ∙ put_other c j [] s.windows ne in
-    let to_send = sent_lower blocks sends left i (Command (arriving i t a cdb sent)) low high first others in
+    let to_send = sent_lower blocks wanted.sends left.sends i (Command (arriving i t a cdb sent)) low high takes.first takes.others in
+    let same = takes.destages in
     let before : sum_upto (turns_left k) s.hist.arrived ≡ sum_upto (turns_left s) s.hist.arrived =
     sum_same (turns_left s) (turns_left k) s.hist.arrived (λ j le.
     let one = it.others j (λ e. omega arith) in
@@ -167,15 +170,16 @@ no_more o left duty w (inl same) = rw same (omega arith)
 no_more o left duty w (inr none) = rw none (omega arith)
 
 -- the turn of a function that arrives
-pub function_lower : (s : Scene) (sends left : Sends) (i : ℕ) (what : Asking) (cs : List ℕ) (rest : List Entry) (ops : List Op)
-    → are_aborted cs rest ≡ true → 1 ≤ i → i ≤ 8 → sends i ≡ Function i what ∷ left i → ((j : ℕ) → j ≢ i → left j ≡ sends j)
-    → turns_of_phase (scene_after s (record { label = label.Arrive i; entries = Asked i what ∷ rest; ops = ops })) left < turns_of_phase s sends
-function_lower s sends left i what cs rest ops ok low high first others =
+pub function_lower : (s : Scene) (wanted left : Wanted) (i : ℕ) (what : Asking) (cs : List ℕ) (rest : List Entry) (ops : List Op)
+    → are_aborted cs rest ≡ true → 1 ≤ i → i ≤ 8 → TakesArrival wanted i (Function i what) left
+    → turns_of_phase (scene_after s (record { label = label.Arrive i; entries = Asked i what ∷ rest; ops = ops })) left < turns_of_phase s wanted
+function_lower s wanted left i what cs rest ops ok low high takes =
     let blocks = capacity s in
     let k = scene_after s (record { label = label.Arrive i; entries = Asked i what ∷ rest; ops = ops }) in
     let now = entry_after blocks (label.Arrive i) s.hist (Asked i what) in
     let quiet = aborted cs rest ok in
-    let to_send = sent_lower blocks sends left i (Function i what) low high first others in
+    let to_send = sent_lower blocks wanted.sends left.sends i (Function i what) low high takes.first takes.others in
+    let same = takes.destages in
     let fewer : sum_upto (turns_left k) s.hist.arrived ≤ sum_upto (turns_left s) s.hist.arrived =
     sum_at_most (turns_left s) (turns_left k) s.hist.arrived (λ j.
     let it = some_aborted blocks i now cs rest ok j in

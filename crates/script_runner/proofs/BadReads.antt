@@ -159,17 +159,22 @@ lost_is_clean n blocks earlier rest c b lawful =
 
 pub bad_reads_are_shown : MapsStay → BlocksHaveOwnSectors → BlocksLieOnUserSectors → BadReadsAreShown
 unfolding AreWithin
-bad_reads_are_shown stay apart on_user order script turns ops good none before after t earlier rest c b is_t is_e =
+bad_reads_are_shown stay apart on_user order script turns ops good none c b get =
+    let before : List Beat = get.before in
+    let after : List Beat = get.behind in
+    let t : Beat = get.turn in
+    let earlier : List Entry = get.earlier in
+    let rest : List Entry = get.later in
     let start = scene_at_start (made_for good.size script) in
     let s = fold scene_after start before in
     let more = ops_begin (scene_after s t) after in
     let whole : ops ≡ (s.ops ++ t.ops) ++ more.0 =
-    sym good.history.own ∙ ap (λ (ts : List Beat). (fold scene_after start ts).ops) is_t
+    sym good.history.own ∙ ap (λ (ts : List Beat). (fold scene_after start ts).ops) get.among
     ∙ ap (λ (k : Scene). k.ops) (fold-append scene_after start before (t ∷ after)) ∙ more.1 in
     let last : strays (fold scene_after (scene_after s t) after).ops ≡ 0 = ap strays (more.1 ∙ sym whole) ∙ none in
-    let turn = along_at scene_after GoodTurn start before after t (subst (λ (ts : List Beat). Along scene_after GoodTurn start ts) is_t good.history.good) in
+    let turn = along_at scene_after GoodTurn start before after t (subst (λ (ts : List Beat). Along scene_after GoodTurn start ts) get.among good.history.good) in
     let lawful : all_along blocks_after (block_lawful (capacity s)) s.hist.blocks (earlier ++ Get c b Lost ∷ rest) ≡ true =
-    ap (λ (es : List Entry). all_along blocks_after (block_lawful (capacity s)) s.hist.blocks es) (sym is_e) ∙ turn.blocks (none_before (scene_after s t) after last) in
+    ap (λ (es : List Entry). all_along blocks_after (block_lawful (capacity s)) s.hist.blocks es) (sym get.within) ∙ turn.blocks (none_before (scene_after s t) after last) in
     let clean = lost_is_clean (capacity s) s.hist.blocks earlier rest c b lawful in
     let same : (entries_after (capacity s) t.label (begun s.hist t.label) earlier).blocks ≡ fold blocks_after s.hist.blocks earlier =
     blocks_of_entries (capacity s) t.label (begun s.hist t.label) earlier ∙ ap (λ (bs : Blocks). fold blocks_after bs earlier) (blocks_begun s.hist t.label) in
@@ -191,4 +196,4 @@ bad_reads_are_shown stay apart on_user order script turns ops good none before a
     absurd (none_lost ops found.2 (place_of s.map b) found.3 found.4 b none written
     (subst (λ (xs : List Op). Contains xs try) (sym whole)
     (Contains-append_left (s.ops ++ t.ops) more.0 try (now_within t.label s.windows s.ops t.ops within c try there))) found.8))
-    (gets_are_shown order script turns ops good before after t earlier rest c b Lost is_t is_e undirty)
+    (gets_are_shown order script turns ops good c b Lost get undirty)

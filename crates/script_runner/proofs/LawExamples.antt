@@ -1,25 +1,26 @@
 -- What the laws speak of happens: in a history that was worked out by hand the premise of each is met.
 use Rattle.std.proofs.Common.{◌≡◌, true, List, [], ◌∷◌, ◌++◌, pos, refl, arith}
-use Rattle.std.specs.Prelude.{IsTrue, ◌+◌, ◌<◌, ◌≤◌, not}
-use Rattle.std.specs.List.{list_all}
+use Rattle.std.specs.Prelude.{IsTrue, filter, ◌+◌}
 use Rattle.std.proofs.lemmas.List.Elements.{All-nil, All-cons}
 use Rattle.disk_base.specs.declared.command.Attribute.TheVariants.{Simple}
 use Rattle.disk_base.specs.declared.command.DataOut.TheVariants.{Nothing, Fill}
 use Rattle.cdb_reader.specs.Operation.{operation_of}
-use Rattle.cdb_reader.specs.Read.{read_of}
 use Rattle.cdb_reader.specs.Replies as replies
+use Rattle.block_machine.specs.declared.entry.Who.TheVariants.{Command as ByCommand}
 use Rattle.block_machine.specs.declared.entry.Entry.{Entry}
 use Rattle.block_machine.specs.declared.entry.Entry.TheVariants.{Arrived, Started, Cut}
 use Rattle.block_machine.specs.declared.entry.Recovered.TheVariants.{Ready}
 use Rattle.block_machine.specs.declared.turn.Label.TheVariants.{Work}
 use Rattle.block_machine.specs.declared.turn.Turn.{Turn}
 use Rattle.block_machine.specs.History.{legal_from, entries_of}
-use Rattle.block_machine.specs.Laws.{NoneRenews, AsksToRead, AsksToForce, AsksToSync, is_cut, is_end_of, succeeds, settings_left}
+use Rattle.block_machine.specs.Parts.{Answered, Life, GetOf, HardenOf, asked, before_start}
+use Rattle.block_machine.specs.Laws.{NoneRenews, NoneCuts, AsksToRead, AsksToForce, is_end_of, succeeds, settings_left}
+use Rattle.block_machine.specs.Lives.{AsksToSync, RenewalOf}
 use Rattle.report_text.specs.declared.shown.Shown.{Shown}
 use Rattle.report_text.specs.declared.shown.Shown.TheVariants.{Fetched as FetchedAt}
 use Rattle.report_text.specs.Proper.{IsShown}
 use Rattle.report_text.specs.Laws.{AreShowable}
-use Rattle.block_machine.proofs.Building.{disk, told_drive, read, write, forced_write, sync, sends, comes, starts, works, get, put, hard, good, cut, power, told, reads, forces}
+use Rattle.block_machine.proofs.Building.{disk, lba, all_of, told_drive, read, write, forced_write, sync, sends, comes, starts, works, get, put, hard, good, cut, power, told, reads, forces}
 
 -- a write into the cache, its sync, a read of the block, and a write with FUA of the next, as they come and as they are done
 worked : List Turn
@@ -49,48 +50,86 @@ forced : List Entry
 forced = Started 4 ∷ put 4 6 0x22 ∷ hard 4 6 ∷ good 4 ∷ []
 
 -- a read that isn't bad, after entries without a cut
-a_read : (entries_of worked ≡ (came ++ written ++ synced ++ Started 3 ∷ []) ++ get 3 5 0x11 ∷ (good 3 ∷ forced))
-    × IsTrue (list_all (λ e. not (is_cut e)) (came ++ written ++ synced ++ Started 3 ∷ []))
+a_read : GetOf (lba 5) (entries_of worked)
 unfolding worked came written synced got forced
-a_read = (refl, refl)
+a_read = record { reader = 3; block = all_of 0x11; before = came ++ written ++ synced ++ Started 3 ∷ []; behind = good 3 ∷ forced; whole = refl }
+
+a_read_without_cut : NoneCuts a_read.before
+unfolding a_read came written synced
+a_read_without_cut = refl
 
 -- one after the block was hardened, without anything newer between
-a_read_of_hardened : (entries_of worked ≡ (came ++ written ++ Started 2 ∷ []) ++ hard 2 5 ∷ ((good 2 ∷ Started 3 ∷ []) ++ get 3 5 0x11 ∷ (good 3 ∷ forced)))
-    × NoneRenews 5 (good 2 ∷ Started 3 ∷ [])
-unfolding worked came written synced got forced
-a_read_of_hardened = (refl, refl)
+a_harden : HardenOf (lba 5) a_read.before
+unfolding a_read came written synced
+a_harden = record { who = ByCommand 2; before = came ++ written ++ Started 2 ∷ []; behind = good 2 ∷ Started 3 ∷ []; whole = refl }
+
+a_read_of_hardened : NoneRenews 5 a_harden.behind
+unfolding a_harden
+a_read_of_hardened = refl
 
 -- a read that ended GOOD
-a_whole_read : (entries_of worked ≡ (Arrived 1 1 (record { 0 = 1 }) Simple (write 5 1) (Fill 0x11) ∷ Arrived 2 1 (record { 0 = 2 }) Simple (sync 5 1) Nothing ∷ [])
-    ++ Arrived 3 1 (record { 0 = 3 }) Simple (read 5 1) Nothing
-    ∷ ((Arrived 4 1 (record { 0 = 4 }) Simple (forced_write 6 1) (Fill 0x22) ∷ written ++ synced ++ Started 3 ∷ get 3 5 0x11 ∷ []) ++ good 3 ∷ forced))
-    × AsksToRead (read_of (read 5 1) Nothing disk) 5 1 × IsTrue (succeeds replies.good)
-unfolding worked written synced forced operation_of
-a_whole_read = (refl, (refl, refl), refl)
+a_whole_read : Answered worked
+unfolding worked written synced forced
+a_whole_read = record {
+  command = record { number = 3; initiator = 1; tag = record { 0 = 3 }; attribute = Simple; cdb = read 5 1; sent = Nothing };
+  reply = replies.good;
+  before = Arrived 1 1 (record { 0 = 1 }) Simple (write 5 1) (Fill 0x11) ∷ Arrived 2 1 (record { 0 = 2 }) Simple (sync 5 1) Nothing ∷ [];
+  between = Arrived 4 1 (record { 0 = 4 }) Simple (forced_write 6 1) (Fill 0x22) ∷ written ++ synced ++ Started 3 ∷ get 3 5 0x11 ∷ [];
+  behind = forced;
+  whole = refl;
+}
+
+a_whole_read_asks : AsksToRead (asked disk a_whole_read.command) 5 1 × IsTrue (succeeds a_whole_read.reply)
+unfolding a_whole_read operation_of
+a_whole_read_asks = ((refl, refl), refl)
 
 -- a write with FUA that ended GOOD
-a_forced_write : (entries_of worked ≡ (Arrived 1 1 (record { 0 = 1 }) Simple (write 5 1) (Fill 0x11) ∷ Arrived 2 1 (record { 0 = 2 }) Simple (sync 5 1) Nothing
-    ∷ Arrived 3 1 (record { 0 = 3 }) Simple (read 5 1) Nothing ∷ [])
-    ++ Arrived 4 1 (record { 0 = 4 }) Simple (forced_write 6 1) (Fill 0x22)
-    ∷ ((written ++ synced ++ got) ++ Started 4 ∷ ((put 4 6 0x22 ∷ hard 4 6 ∷ []) ++ good 4 ∷ [])))
-    × AsksToForce (read_of (forced_write 6 1) (Fill 0x22) disk) (settings_left (came ++ written ++ synced ++ got)) 6 1 × IsTrue (succeeds replies.good)
-unfolding worked came written synced got operation_of
-a_forced_write = (refl, (refl, refl, refl), refl)
+a_forced_write : Life worked
+unfolding worked written synced got forced
+a_forced_write = record {
+  command = record { number = 4; initiator = 1; tag = record { 0 = 4 }; attribute = Simple; cdb = forced_write 6 1; sent = Fill 0x22 };
+  reply = replies.good;
+  before = Arrived 1 1 (record { 0 = 1 }) Simple (write 5 1) (Fill 0x11) ∷ Arrived 2 1 (record { 0 = 2 }) Simple (sync 5 1) Nothing
+      ∷ Arrived 3 1 (record { 0 = 3 }) Simple (read 5 1) Nothing ∷ [];
+  queued = written ++ synced ++ got;
+  during = put 4 6 0x22 ∷ hard 4 6 ∷ [];
+  behind = [];
+  whole = refl;
+}
 
--- a sync that ended GOOD, and a block of its range
-a_sync : (entries_of worked ≡ (Arrived 1 1 (record { 0 = 1 }) Simple (write 5 1) (Fill 0x11) ∷ [])
-    ++ Arrived 2 1 (record { 0 = 2 }) Simple (sync 5 1) Nothing
-    ∷ ((Arrived 3 1 (record { 0 = 3 }) Simple (read 5 1) Nothing ∷ Arrived 4 1 (record { 0 = 4 }) Simple (forced_write 6 1) (Fill 0x22) ∷ written)
-    ++ Started 2 ∷ ((hard 2 5 ∷ []) ++ good 2 ∷ (got ++ forced))))
-    × AsksToSync (read_of (sync 5 1) Nothing disk) 5 1 × IsTrue (succeeds replies.good) × (5 ≤ 5) × (5 < 5 + 1)
-unfolding worked written got forced operation_of
-a_sync = (refl, (refl, refl), refl, omega arith, omega arith)
+a_forced_write_asks : AsksToForce (asked disk a_forced_write.command) (settings_left (before_start a_forced_write)) 6 1 × IsTrue (succeeds a_forced_write.reply)
+unfolding a_forced_write written synced got operation_of
+a_forced_write_asks = ((refl, refl, refl), refl)
 
--- ends of two commands
-two_ends : (entries_of worked ≡ (came ++ Started 1 ∷ put 1 5 0x11 ∷ []) ++ good 1 ∷ ((Started 2 ∷ hard 2 5 ∷ []) ++ good 2 ∷ (got ++ forced)))
-    × IsTrue (is_end_of 1 (good 1)) × IsTrue (is_end_of 2 (good 2))
-unfolding worked came got forced
-two_ends = (refl, refl, refl)
+-- a sync that ended GOOD, a block of its range, and what was put there before
+a_sync : Life worked
+unfolding worked written synced got forced
+a_sync = record {
+  command = record { number = 2; initiator = 1; tag = record { 0 = 2 }; attribute = Simple; cdb = sync 5 1; sent = Nothing };
+  reply = replies.good;
+  before = Arrived 1 1 (record { 0 = 1 }) Simple (write 5 1) (Fill 0x11) ∷ [];
+  queued = Arrived 3 1 (record { 0 = 3 }) Simple (read 5 1) Nothing ∷ Arrived 4 1 (record { 0 = 4 }) Simple (forced_write 6 1) (Fill 0x22) ∷ written;
+  during = hard 2 5 ∷ [];
+  behind = got ++ forced;
+  whole = refl;
+}
+
+a_sync_asks : AsksToSync (asked disk a_sync.command) 5 × IsTrue (succeeds a_sync.reply)
+unfolding a_sync operation_of
+a_sync_asks = ((omega arith, omega arith), refl)
+
+a_renewal : RenewalOf (lba 5) (before_start a_sync)
+unfolding a_sync came written
+a_renewal = record { entry = put 1 5 0x11; renewing = refl; before = came ++ Started 1 ∷ []; behind = good 1 ∷ []; whole = refl }
+
+a_renewal_without_cut : NoneCuts a_renewal.behind
+unfolding a_renewal
+a_renewal_without_cut = refl
+
+-- each of two commands has its end
+two_ends : (filter (is_end_of 1) (entries_of worked) ≡ good 1 ∷ []) × (filter (is_end_of 2) (entries_of worked) ≡ good 2 ∷ [])
+unfolding worked
+two_ends = (refl, refl)
 
 -- two reads of a block after a power cut, with nothing newer between: no script may have one yet, but a legal history may
 cut_short : List Turn
@@ -100,15 +139,31 @@ cut_short_is_legal : legal_from disk told_drive cut_short ≡ true
 unfolding cut_short operation_of
 cut_short_is_legal = refl
 
-two_reads_after_a_cut : (before first between after : List Entry)
-    × (entries_of cut_short ≡ before ++ Cut ∷ (first ++ get 3 0 0x11 ∷ (between ++ get 4 0 0x11 ∷ after)))
-    × NoneRenews 0 first × NoneRenews 0 between
+a_later_read : GetOf (lba 0) (entries_of cut_short)
 unfolding cut_short
+a_later_read = record {
+  reader = 4;
+  block = all_of 0x11;
+  before = entries_of (forces 1 0 0x11 ++ cut ∷ power (Ready 6) ∷ told 2 1 0x29 0x01 ++ reads 3 0 0x11 ++ comes 4 1 (read 0 1) ∷ starts 4 ∷ []);
+  behind = good 4 ∷ [];
+  whole = refl;
+}
+
+an_earlier_read : GetOf (lba 0) a_later_read.before
+unfolding a_later_read
+an_earlier_read = record {
+  reader = 3;
+  block = all_of 0x11;
+  before = entries_of (forces 1 0 0x11 ++ cut ∷ power (Ready 6) ∷ told 2 1 0x29 0x01 ++ comes 3 1 (read 0 1) ∷ starts 3 ∷ []);
+  behind = good 3 ∷ entries_of (comes 4 1 (read 0 1) ∷ starts 4 ∷ []);
+  whole = refl;
+}
+
+two_reads_after_a_cut : (before since : List Entry) × (an_earlier_read.before ≡ before ++ Cut ∷ since) × NoneRenews 0 since × NoneRenews 0 an_earlier_read.behind
+unfolding an_earlier_read
 two_reads_after_a_cut = (
   entries_of (forces 1 0 0x11),
   entries_of (power (Ready 6) ∷ told 2 1 0x29 0x01 ++ comes 3 1 (read 0 1) ∷ starts 3 ∷ []),
-  good 3 ∷ entries_of (comes 4 1 (read 0 1) ∷ starts 4 ∷ []),
-  good 4 ∷ [],
   refl,
   refl,
   refl,

@@ -22,5 +22,6 @@ pub mod Running
 pub mod Reports
 pub mod OwnData
 pub mod BadReads
+pub mod UnreadEnds
 pub mod LawExamples
 pub mod Examples

@@ -41,6 +41,11 @@ pub sum_at_most : (f g : ℕ → ℕ) (n : ℕ) → ((j : ℕ) → g j ≤ f j) 
 sum_at_most f g zero le = omega arith
 sum_at_most f g (suc n) le = let here = le (suc n) in let rest = sum_at_most f g n le in omega arith
 
+-- the turns of commands by the history and their windows
+abbrev pub turns_by : State → (ℕ → List Op) → ℕ → ℕ
+turns_by h windows c =
+    option_map_or (λ m. turns_a_step * steps_of_member h m + (window_at_most - length (windows c)) + turns_to_move) (member_of h.set c) 0
+
 -- the turns of a command by what is known of it
 abbrev pub of_command : Option Member → Duty → ℕ → ℕ
 of_command o duty w = option_map_or (λ m. turns_a_step * by_duty m duty + (window_at_most - w) + turns_to_move) o 0

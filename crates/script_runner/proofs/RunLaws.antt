@@ -110,7 +110,7 @@ empty_at_end (Command i tag attribute cdb sent ∷ lines) order s waiting turns 
     empty_at_end lines order s (waiting ++ Command i tag attribute cdb sent ∷ []) turns out
 empty_at_end (Function i what ∷ lines) order s waiting turns out = empty_at_end lines order s (waiting ++ Function i what ∷ []) turns out
 empty_at_end (Scan count ∷ lines) order s waiting turns out = absurd out
-empty_at_end (Destage count ∷ lines) order s waiting turns out = absurd out
+empty_at_end (Destage count ∷ lines) order s waiting turns out = empty_at_end lines order s (waiting ++ Destage count ∷ []) turns out
 
 pub none_is_left : OfGoodRuns NoneIsLeft
 none_is_left order script turns ops good =
@@ -135,9 +135,10 @@ along_at step P s [] ys x all = all.0
 along_at step P s (z ∷ xs) ys x all = along_at step P (step s z) xs ys x all.1
 
 pub gets_are_shown : GetsAreShown
-gets_are_shown order script turns ops good before after t earlier rest c b v is_t is_e clean =
+gets_are_shown order script turns ops good c b v get clean =
     let start = scene_at_start (made_for good.size script) in
-    let turn = along_at scene_after GoodTurn start before after t (subst (λ (ts : List Beat). Along scene_after GoodTurn start ts) is_t good.history.good) in
-    let s = fold scene_after start before in
-    (along_at (entry_after (capacity s) t.label) (Shows s t) (begun s.hist t.label) earlier rest (Get c b v)
-    (subst (λ (es : List Entry). Along (entry_after (capacity s) t.label) (Shows s t) (begun s.hist t.label) es) is_e turn.shown)).1 clean
+    let t = get.turn in
+    let turn = along_at scene_after GoodTurn start get.before get.behind t (subst (λ (ts : List Beat). Along scene_after GoodTurn start ts) get.among good.history.good) in
+    let s = fold scene_after start get.before in
+    (along_at (entry_after (capacity s) t.label) (Shows s t) (begun s.hist t.label) get.earlier get.later (Get c b v)
+    (subst (λ (es : List Entry). Along (entry_after (capacity s) t.label) (Shows s t) (begun s.hist t.label) es) get.within turn.shown)).1 clean

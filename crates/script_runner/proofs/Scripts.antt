@@ -14,7 +14,7 @@ use Rattle.text_words.specs.Line.{words_of}
 use Rattle.text_words.specs.Number.{number}
 use Rattle.block_machine.proofs.Booleans.{both}
 use Rattle.script_text.specs.declared.script.Line.{Line}
-use Rattle.script_text.specs.declared.script.Line.TheVariants.{Command, Function, Go, World}
+use Rattle.script_text.specs.declared.script.Line.TheVariants.{Command, Function, Destage, Go, World}
 use Rattle.script_text.specs.declared.script.Script.{Script}
 use Rattle.script_text.specs.declared.why.Why.{Why}
 use Rattle.script_text.specs.declared.why.Why.TheVariants.{Bytes, Shape, Disk, Place, Tag, Limit, Later}
@@ -276,6 +276,7 @@ served_line size (Command i t a cdb sent) good = good.served
 served_line size (Function i what) good = tt
 served_line size (World (Minutes n)) good = tt
 served_line size (World (Damage d)) good = (good.proper.sector, good.proper.within)
+served_line size (Destage count) good = tt
 served_line size Go good = tt
 served_line size line good = let h = good.served in absurd (cc)
 

@@ -65,5 +65,5 @@ abbrev pub arrived_in : ℕ → List Beat → List Arrival
 arrived_in i turns = flat_map (λ t. arrived_by i t.entries) turns
 
 -- what an initiator is still to send, after turns of a phase
-abbrev pub left_of : Sends → List Beat → Sends
-left_of sends came i = drop (length (arrived_in i came)) (sends i)
+abbrev pub unsent_of : Sends → List Beat → Sends
+unsent_of sends came i = drop (length (arrived_in i came)) (sends i)

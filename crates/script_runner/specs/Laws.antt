@@ -11,8 +11,10 @@ use Rattle.geometry_map.specs.Size.{capacity_of}
 use Rattle.platter_model.specs.declared.op.Op.{Op}
 use Rattle.platter_model.specs.TrueLog.{strays}
 use Rattle.script_text.specs.declared.script.Script.{Script}
+use Rattle.sense_data.specs.declared.reply.Reply.{Reply}
+use Rattle.cdb_reader.specs.Replies.{same_reply, unrecovered_read}
 use Rattle.block_machine.specs.declared.entry.Entry.{Entry}
-use Rattle.block_machine.specs.declared.entry.Entry.TheVariants.{Get}
+use Rattle.block_machine.specs.declared.entry.Entry.TheVariants.{Get, Ended}
 use Rattle.block_machine.specs.declared.turn.Turn.{Turn}
 use Rattle.block_machine.specs.Blocks.{is_dirty}
 use Rattle.block_machine.specs.History.{legal, task_legal, state_after, entries_of}
@@ -22,7 +24,7 @@ use Rattle.block_machine.specs.State.{State}
 use Rattle.block_machine.specs.Steps.{begun, entries_after}
 use Rattle.drive_scene.specs.Scene.{Scene, Beat, capacity, scene_at_start, scene_after}
 use Rattle.drive_scene.specs.Evidence.{IsGotShown, FailedBelow, window_now, settings_now}
-use Rattle.drive_scene.specs.Run.{beats_of}
+use Rattle.drive_scene.specs.Run.{Run, beats_of}
 use Rattle.report_text.specs.declared.run.Form.TheVariants.{Whole}
 use Rattle.report_text.specs.Operations.{shown_of}
 use Rattle.report_text.specs.Summary.{counts_of}
@@ -73,14 +75,24 @@ scene_before size script before = fold scene_after (scene_at_start (made_for siz
 abbrev pub state_before : Scene → Beat → List Entry → State
 state_before s t entries = entries_after (capacity s) t.label (begun s.hist t.label) entries
 
+-- where an entry stands in a run: in which turn, and what came before and behind it
+pub record EntryIn (run : Run) (e : Entry) : Type 0 where
+  pub turn : Beat
+  pub before : List Beat
+  pub behind : List Beat
+  pub earlier : List Entry
+  pub later : List Entry
+  pub among : beats_of run ≡ before ++ turn ∷ behind
+  pub within : turn.entries ≡ earlier ++ e ∷ later
+
 -- a law: a value that a command gets of a block that isn't dirty is shown by the operations: the stages found it on the medium,
 -- or it is known since the power came on and may be given from the cache; and a block is read as lost only where each stage
 -- failed, or one found that it is lost
 abbrev pub GetsAreShown : Type 0
-GetsAreShown = (order : Option ℕ) (script : Script) (turns : List Turn) (ops : List Op) (good : IsGood order script turns ops) (before after : List Beat) (t : Beat) (earlier rest : List Entry) (c : ℕ) (b : Lba) (v : Value)
-    → beats_of (drive_run good.size script turns ops) ≡ before ++ t ∷ after → t.entries ≡ earlier ++ Get c b v ∷ rest
-    → let s = scene_before good.size script before in let h = state_before s t earlier in
-    is_dirty (h.blocks b.0) ≡ false → IsGotShown s (window_now s t c) (settings_now s t c) h c b v
+GetsAreShown = (order : Option ℕ) (script : Script) (turns : List Turn) (ops : List Op) (good : IsGood order script turns ops)
+    (c : ℕ) (b : Lba) (v : Value) (get : EntryIn (drive_run good.size script turns ops) (Get c b v))
+    → let s = scene_before good.size script get.before in let h = state_before s get.turn get.earlier in
+    is_dirty (h.blocks b.0) ≡ false → IsGotShown s (window_now s get.turn c) (settings_now s get.turn c) h c b v
 
 -- a window is, as a list, the tries of all stages of a retry count at a sector, in their order, and each found nothing
 abbrev pub EachStageFailed : List Op → Psn → ℕ → Type 0
@@ -89,9 +101,15 @@ EachStageFailed window p retry = FailedBelow window p retry (length (stages_of r
 -- a law: in a good run without strays a block is read as lost only where each stage failed
 abbrev pub BadReadsAreShown : Type 0
 BadReadsAreShown = (order : Option ℕ) (script : Script) (turns : List Turn) (ops : List Op) (good : IsGood order script turns ops) → strays ops ≡ 0
-    → (before after : List Beat) (t : Beat) (earlier rest : List Entry) (c : ℕ) (b : Lba)
-    → beats_of (drive_run good.size script turns ops) ≡ before ++ t ∷ after → t.entries ≡ earlier ++ Get c b Lost ∷ rest
-    → let s = scene_before good.size script before in EachStageFailed (window_now s t c) (place_of s.map b) (settings_now s t c).retry
+    → (c : ℕ) (b : Lba) (get : EntryIn (drive_run good.size script turns ops) (Get c b Lost))
+    → let s = scene_before good.size script get.before in EachStageFailed (window_now s get.turn c) (place_of s.map b) (settings_now s get.turn c).retry
+
+-- a law: in a good run without strays a command ends with UNRECOVERED READ ERROR at a block only where each stage failed there
+abbrev pub UnreadEndsAreShown : Type 0
+UnreadEndsAreShown = (order : Option ℕ) (script : Script) (turns : List Turn) (ops : List Op) (good : IsGood order script turns ops) → strays ops ≡ 0
+    → (c : ℕ) (reply : Reply) (b : Lba) (end : EntryIn (drive_run good.size script turns ops) (Ended c reply))
+    → IsTrue (same_reply reply (unrecovered_read b.0))
+    → let s = scene_before good.size script end.before in EachStageFailed (window_now s end.turn c) (place_of s.map b) (settings_now s end.turn c).retry
 
 -- a law: the report of a good run, printed whole, is the report of the run's own turns, so `read_run` gives these of it, where it has
 -- fewer than 2^32 - 1 bytes; if its numbers fit: those of labels, operations and entries the ranges of their types, as they do in

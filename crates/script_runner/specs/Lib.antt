@@ -1,5 +1,6 @@
 pub mod Words
 pub mod Arrivals
+pub mod Wanted
 pub mod Order
 pub mod Phase
 pub mod CarriedOut

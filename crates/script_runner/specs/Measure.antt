@@ -18,6 +18,7 @@ use Rattle.drive_scene.specs.declared.event.Arrival.TheVariants.{Command, Functi
 use Rattle.drive_scene.specs.Scene.{Scene, capacity}
 use Rattle.drive_scene.specs.GoodTurn.{window_at_most}
 use Rattle.script_runner.specs.Arrivals.{Sends, arriving}
+use Rattle.script_runner.specs.Wanted.{Wanted}
 
 -- the entries of a command that still owes a plan: of a block that is read, or written, two; and its end
 abbrev pub steps_of : Plan → ℕ
@@ -82,9 +83,13 @@ turns_of_arrival blocks (Function i what) = 1
 abbrev pub turns_to_send : ℕ → Sends → ℕ
 turns_to_send blocks sends = sum_upto (λ i. sum_by (turns_of_arrival blocks) (sends i)) 8
 
--- the turns of the rest of a phase: of all commands that came, and of what is still to be sent
-abbrev pub turns_of_phase : Scene → Sends → ℕ
-turns_of_phase s sends = turns_to_send (capacity s) sends + sum_upto (turns_left s) s.hist.arrived
+-- with a turn for each destage
+abbrev pub turns_wanted : ℕ → Wanted → ℕ
+turns_wanted blocks wanted = turns_to_send blocks wanted.sends + wanted.destages
+
+-- the turns of the rest of a phase: of all commands that came, and of what is still wanted
+abbrev pub turns_of_phase : Scene → Wanted → ℕ
+turns_of_phase s wanted = turns_wanted (capacity s) wanted + sum_upto (turns_left s) s.hist.arrived
 
 -- at most so many turns does a line have
 abbrev pub turns_of_line : ℕ → Line → ℕ

@@ -31,7 +31,7 @@ abbrev pub IsServedLine : Size → Line → Type 0
 IsServedLine size (Command i tag attribute cdb sent) = IsTrue (is_served_cdb cdb)
 IsServedLine size (Function i what) = Unit {0}
 IsServedLine size (Scan count) = ⊥
-IsServedLine size (Destage count) = ⊥
+IsServedLine size (Destage count) = Unit {0}
 IsServedLine size Go = Unit {0}
 IsServedLine size (World event) = IsServedWorld size event
 

@@ -5,16 +5,16 @@ ghost use Rattle.drive_scene.specs.Run.{scene_of};
 ghost use Rattle.drive_scene.specs.Able.{turns_at_most};
 ghost use Rattle.drive_core.specs.Served.{IsServed};
 ghost use Rattle.drive_scene.specs.declared.event.Event.TheVariants as event;
-ghost use Rattle.script_runner.specs.Arrivals.{sends_of};
+ghost use Rattle.script_runner.specs.Wanted.{wanted_of};
 ghost use Rattle.script_runner.specs.Script.{blocks_of, HasMeasures, IsServedLine, CanBeCarriedOut, IsFresh};
-ghost use Rattle.script_runner.specs.Measure.{turns_of_line, turns_of_lines, turns_to_send};
+ghost use Rattle.script_runner.specs.Measure.{turns_of_line, turns_of_lines, turns_wanted};
 ghost use Rattle.script_runner.specs.Leading.{IsAtRest, TakesLine, CarriesOut};
 ghost use Rattle.script_runner.specs.Phasing.{Happens};
 ghost use Rattle.script_runner.specs.Run.{IsGoodByOrder};
 
 use crate::order::Order;
 use crate::phase::{carry_phase, make_turn};
-use crate::queues::Queues;
+use crate::queues::Queued;
 use disk_base::NoMemory;
 use drive_core::{Arrival, Arriving, Drive, Event};
 use geometry_map::Size;
@@ -79,27 +79,27 @@ fn carry_out(alloc: Global, drive: &mut Drive, lines: &[Line], order: Order) -> 
     requires room { length drive.old.turns + turns_of_lines (capacity_of drive.old.made.size) lines.now < turns_at_most }
     ensures { OnOk result (CarriesOut drive.old order.x lines.now drive.new) }
 {
-    let mut queues = Queues::new(alloc)?;
+    let mut queued = Queued::new(alloc)?;
     let mut so_far = order;
     for line in lines {
-        take_line(alloc, drive, &mut queues, &mut so_far, line)?;
+        take_line(alloc, drive, &mut queued, &mut so_far, line)?;
     }
-    carry_phase(drive, &mut queues, &mut so_far)
+    carry_phase(drive, &mut queued, &mut so_far)
 }
 
 fn take_line(
     alloc: Global,
     drive: &mut Drive,
-    queues: &mut Queues,
+    queued: &mut Queued,
     order: &mut Order,
     line: &Line,
 ) -> Result<(), NoMemory>
     requires served { IsServedLine drive.old.made.size line.now }
-    requires at_rest { IsAtRest drive.old (sends_of queues.old) }
-    requires room { length drive.old.turns + turns_to_send (capacity_of drive.old.made.size) (sends_of queues.old)
+    requires at_rest { IsAtRest drive.old (wanted_of queued.old) }
+    requires room { length drive.old.turns + turns_wanted (capacity_of drive.old.made.size) (wanted_of queued.old)
         + turns_of_line (capacity_of drive.old.made.size) line.now < turns_at_most }
     ensures { OnOk result
-        (TakesLine drive.old order.old.x (sends_of queues.old) line.now drive.new order.new.x (sends_of queues.new)) }
+        (TakesLine drive.old order.old.x (wanted_of queued.old) line.now drive.new order.new.x (wanted_of queued.new)) }
 {
     match line {
         Line::Command {
@@ -116,18 +116,22 @@ fn take_line(
                 cdb: cdb.copy(),
                 sent: sent.copy(alloc)?,
             });
-            queues.put(*initiator, arrival)
+            queued.queues.put(*initiator, arrival)
         }
         Line::Function { initiator, what } => {
             let arrival = Arrival::Function {
                 initiator: *initiator,
                 what: *what,
             };
-            queues.put(*initiator, arrival)
+            queued.queues.put(*initiator, arrival)
         }
-        Line::Go => carry_phase(drive, queues, order),
+        Line::Destage { count } => {
+            queued.destages += *count;
+            Ok(())
+        }
+        Line::Go => carry_phase(drive, queued, order),
         Line::World { world } => happen(drive, *world),
-        Line::Scan { .. } | Line::Destage { .. } => unreachable!(),
+        Line::Scan { .. } => unreachable!(),
     }
 }
 

@@ -2,13 +2,13 @@
 //!
 //! Those that speak of strays hold of runs in which no damage was taken for another payload; the others of every run.
 
-ghost use Rattle.block_machine.specs.Laws.{ReadsGiveWhatWasPutLast, HardenedValuesStay, ReadsGiveHardenedOrNewer, FirstReadSettles, ReadsGetEachBlockOnce, ForcedWritesAreHardened, SyncsFindEachBlockHardened, EndsHaveTheirStatus, NoneEndsTwice, SuccessesFollowStarts};
+ghost use Rattle.block_machine.specs.Laws.{ReadsGiveWhatWasPutLast, HardenedValuesStay, ReadsGiveHardenedOrNewer, FirstReadSettles, ReadsGetEachBlockOnce, ForcedWritesAreHardened, EndsHaveTheirStatus, NoneEndsTwice, SuccessesFollowStarts};
 ghost use Rattle.block_machine.specs.KeptValues.{ReadsGiveTheirOwnWrite, RuledOutValuesStayOut};
 ghost use Rattle.block_machine.specs.Lives.{WritesPutEachBlockOnce, SyncsHardenWhatWasPut, ForcedWritesStand, SyncedValuesStand};
 ghost use Rattle.block_machine.specs.Stages.{EntriesFitTheirStage};
 ghost use Rattle.history_laws.specs.Order.{TasksStartInOrder};
 ghost use Rattle.history_laws.specs.Unread.{UnreadEndsFollowBadGets};
-ghost use Rattle.script_runner.specs.Laws.{OfGoodRuns, OfRunsWithoutStrays, AreLegal, AreTaskLegal, BeginningsAreLegal, NoneIsLeft, AllThatCameAreGone, DirtyBlocksArePending, GetsAreShown, BadReadsAreShown, ReportsTellTheirRuns};
+ghost use Rattle.script_runner.specs.Laws.{OfGoodRuns, OfRunsWithoutStrays, AreLegal, AreTaskLegal, BeginningsAreLegal, NoneIsLeft, AllThatCameAreGone, DirtyBlocksArePending, GetsAreShown, BadReadsAreShown, UnreadEndsAreShown, ReportsTellTheirRuns};
 
 use drive_scene::maps_stay;
 use geometry_map::{blocks_are_at_user_sectors, two_blocks_are_never_at_one_sector};
@@ -65,12 +65,6 @@ pub fn forced_writes_are_hardened()
     ensures { OfGoodRuns ForcedWritesAreHardened }
 {}
 
-/// Without strays, when a sync ends GOOD, each block of its range was, at some moment since its start, without a value that
-/// isn't hardened.
-pub fn syncs_find_each_block_hardened()
-    ensures { OfRunsWithoutStrays SyncsFindEachBlockHardened }
-{}
-
 /// A read or a verification that ends GOOD, or with a recovered error, got each block of its range once, in order.
 pub fn reads_get_each_block_once()
     ensures { OfGoodRuns ReadsGetEachBlockOnce }
@@ -93,8 +87,8 @@ pub fn writes_put_each_block_once()
     ensures { OfGoodRuns WritesPutEachBlockOnce }
 {}
 
-/// Without strays, what was put at a block of a sync's range before the sync started is hardened before the sync ends GOOD, where
-/// the power stayed on from the put to the start.
+/// Without strays, what was put at a block of a sync's range before the sync started, or that the block was given up, is hardened
+/// before the sync ends GOOD, where the power stayed on from then to the start.
 pub fn syncs_harden_what_was_put()
     ensures { OfRunsWithoutStrays SyncsHardenWhatWasPut }
 {}
@@ -118,11 +112,14 @@ pub fn tasks_start_in_order()
     ensures { OfGoodRuns TasksStartInOrder }
 {}
 
-/// Where a read, a verification or a WRITE AND VERIFY ends with UNRECOVERED READ ERROR at a block, the last that it did to a block
-/// was a bad get of this one.
+/// Where a command ends with UNRECOVERED READ ERROR at a block, whatever it asked for, the last that it did to a block in this turn
+/// was a bad get of this one. So without strays each stage had failed there.
 pub fn unread_ends_follow_bad_gets()
-    ensures { OfGoodRuns UnreadEndsFollowBadGets }
-{}
+    ensures got { OfGoodRuns UnreadEndsFollowBadGets }
+    ensures shown { UnreadEndsAreShown }
+{
+    gets_are_shown();
+}
 
 /// The dirty blocks are those to which something newer came that was neither hardened nor cut off since; the list of dirty
 /// addresses has each of them once.

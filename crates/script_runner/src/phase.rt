@@ -1,47 +1,50 @@
 //! A phase of a script: turns of the drive, until nothing is left to do.
-ghost use Rattle.std.specs.Prelude.{◌≡◌, ◌+◌, ◌≤◌, ◌<◌, ℕ, false, [], Some, None, OnOk, length};
+ghost use Rattle.std.specs.Prelude.{◌≡◌, ◌+◌, ◌≤◌, ◌<◌, ℕ, Some, None, OnOk, length};
 ghost use Rattle.drive_scene.specs.Run.{scene_of};
 ghost use Rattle.drive_scene.specs.Able.{refusal, pick_of, turns_at_most};
 ghost use Rattle.drive_core.specs.Served.{IsServed};
-ghost use Rattle.script_runner.specs.Arrivals.{sends_of};
+ghost use Rattle.script_runner.specs.Wanted.{IsNothing, wanted_of};
 ghost use Rattle.script_runner.specs.Phase.{waiting_of};
 ghost use Rattle.script_runner.specs.Phasing.{AreServed, Carried, Fetches, IsAtHand, MakesTurn, TakesTurn, is_done};
 ghost use Rattle.script_runner.specs.Measure.{turns_of_phase};
 
 use crate::order::Order;
-use crate::queues::Queues;
+use crate::queues::Queued;
 use disk_base::NoMemory;
 use drive_core::{Drive, Event, Pick, TurnAnswer};
+use drive_scene::destages_leave_commands;
 
-/// Carries out what waits: all of it arrives, and each command comes to its end.
+/// Carries out what waits: all of it arrives, each command comes to its end, and destages come while a block can be destaged.
 pub(crate) fn carry_phase(
     drive: &mut Drive,
-    queues: &mut Queues,
+    queued: &mut Queued,
     order: &mut Order,
 ) -> Result<(), NoMemory>
-    requires served { AreServed (sends_of queues.old) }
-    requires room { length drive.old.turns + turns_of_phase (scene_of drive.old) (sends_of queues.old) < turns_at_most }
-    ensures carried { OnOk result (Carried drive.old order.old.x (sends_of queues.old) drive.new order.new.x) }
-    ensures emptied { OnOk result ((i : ℕ) → sends_of queues.new i ≡ []) }
+    requires served { AreServed (wanted_of queued.old).sends }
+    requires room { length drive.old.turns + turns_of_phase (scene_of drive.old) (wanted_of queued.old) < turns_at_most }
+    ensures carried { OnOk result (Carried drive.old order.old.x (wanted_of queued.old) drive.new order.new.x) }
+    ensures emptied { OnOk result (IsNothing (wanted_of queued.new)) }
 {
-    while let Some(pick) = drive.pick(&queues.waiting(), order.number()) {
-        take_turn(drive, queues, pick)?;
+    while let Some(pick) = drive.pick(&queued.waiting(), order.number()) {
+        take_turn(drive, queued, pick)?;
         order.advance();
     }
+    queued.destages = 0;
     drive.is_good();
     drive.somebody_is_able();
     Ok(())
 }
 
 // The turn that was picked.
-fn take_turn(drive: &mut Drive, queues: &mut Queues, pick: Pick) -> Result<(), NoMemory>
-    requires picked { (x : ℕ) × (pick_of drive.old (waiting_of (sends_of queues.old)) x ≡ Some pick) }
-    requires served { AreServed (sends_of queues.old) }
+fn take_turn(drive: &mut Drive, queued: &mut Queued, pick: Pick) -> Result<(), NoMemory>
+    requires picked { (x : ℕ) × (pick_of drive.old (waiting_of (wanted_of queued.old)) x ≡ Some pick) }
+    requires served { AreServed (wanted_of queued.old).sends }
     requires room { length drive.old.turns < turns_at_most }
-    ensures { OnOk result (TakesTurn drive.old (sends_of queues.old) pick drive.new (sends_of queues.new)) }
+    ensures { OnOk result (TakesTurn drive.old (wanted_of queued.old) pick drive.new (wanted_of queued.new)) }
 {
     drive.is_good();
-    let event = event_of(queues, pick);
+    destages_leave_commands();
+    let event = event_of(queued, pick);
     make_turn(drive, event)
 }
 
@@ -80,17 +83,21 @@ fn is_done(answer: TurnAnswer) -> bool
 }
 
 // The event of a pick.
-fn event_of(queues: &mut Queues, pick: Pick) -> Event
-    requires at_hand { IsAtHand (sends_of queues.old) pick }
-    requires served { AreServed (sends_of queues.old) }
-    ensures { Fetches (sends_of queues.old) pick result (sends_of queues.new) }
+fn event_of(queued: &mut Queued, pick: Pick) -> Event
+    requires at_hand { IsAtHand (wanted_of queued.old) pick }
+    requires served { AreServed (wanted_of queued.old).sends }
+    ensures { Fetches (wanted_of queued.old) pick result (wanted_of queued.new) }
 {
     match pick {
-        Pick::Arrive(initiator) => match queues.take(initiator) {
+        Pick::Arrive(initiator) => match queued.queues.take(initiator) {
             Some(arrival) => Event::Arrive(arrival),
             None => unreachable!(),
         },
         Pick::Work(c) => Event::Work(c),
-        Pick::Job(_) | Pick::Scan | Pick::Destage => unreachable!(),
+        Pick::Destage => {
+            queued.destages -= 1;
+            Event::Destage
+        }
+        Pick::Job(_) | Pick::Scan => unreachable!(),
     }
 }

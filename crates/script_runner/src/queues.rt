@@ -1,7 +1,8 @@
 //! What waits outside the drive for the next phase.
 ghost use Rattle.std.specs.Prelude.{◌≡◌, ◌+◌, ◌<◌, [], ℕ, length, OnOk, OnErr, IfOk, MatchOption};
 ghost use Rattle.script_runner.specs.Arrivals.{sends_of, Added, Taken};
-ghost use Rattle.script_runner.specs.Phase.{waiting_of};
+ghost use Rattle.script_runner.specs.Wanted.{IsNothing, wanted_of};
+ghost use Rattle.script_runner.specs.Phase.{have_something, waiting_of};
 
 use disk_base::{Initiator, NoMemory};
 use drive_core::{Arrival, Waiting};
@@ -10,6 +11,38 @@ use std::collections::VecDeque;
 use std::marker::Model;
 
 const INITIATORS: usize = 8;
+
+/// What waits for `go`: what each initiator is to send, and how many destages are asked for.
+#[derive(Drop)]
+pub(crate) struct Queued {
+    pub(crate) queues: Queues,
+    pub(crate) destages: u32,
+}
+
+impl Queued {
+    /// Nothing waits.
+    pub(crate) fn new(alloc: Global) -> Result<Self, NoMemory>
+        ensures { IfOk result (λ queued. IsNothing (wanted_of queued)) }
+    {
+        let queues = Queues::new(alloc)?;
+        Ok(Queued {
+            queues,
+            destages: 0,
+        })
+    }
+
+    /// What the drive is told of it.
+    pub(crate) fn waiting(&self) -> Waiting
+        ensures value { result ≡ waiting_of (wanted_of self.now) }
+        ensures eight { length self.now.queues ≡ 8 }
+    {
+        Waiting {
+            arrivals: self.queues.have_something(),
+            scans: false,
+            destages: self.destages != 0,
+        }
+    }
+}
 
 /// Of each of the eight initiators, what it is to send, in order.
 #[derive(Drop)]
@@ -57,19 +90,15 @@ impl Queues {
     }
 
     /// Which initiators have something to send.
-    pub(crate) fn waiting(&self) -> Waiting
-        ensures value { result ≡ waiting_of (sends_of self.now) }
+    fn have_something(&self) -> [bool; INITIATORS]
+        ensures value { result ≡ have_something (sends_of self.now) }
         ensures eight { length self.now ≡ 8 }
     {
         let mut arrivals = [false; INITIATORS];
         for (place, queue) in self.queues.iter().enumerate() {
             arrivals[place] = !queue.is_empty();
         }
-        Waiting {
-            arrivals,
-            scans: false,
-            destages: false,
-        }
+        arrivals
     }
 }
 

@@ -13,7 +13,7 @@ use Rattle.platter_model.specs.declared.damage.Lasting.TheVariants.{Hard, Soft, 
 use Rattle.platter_model.specs.declared.damage.Effect.TheVariants.{Drop, Add}
 use Rattle.platter_model.specs.declared.world.World.TheVariants.{Damage, Minutes}
 use Rattle.script_text.specs.declared.script.Line.{Line}
-use Rattle.script_text.specs.declared.script.Line.TheVariants.{Command, Function, Scan, Go, World}
+use Rattle.script_text.specs.declared.script.Line.TheVariants.{Command, Function, Scan, Destage, Go, World}
 use Rattle.script_text.specs.declared.why.Why.{Why}
 use Rattle.script_text.specs.declared.why.Why.TheVariants.{Bytes, Shape, Number, Hex, Cdb, Disk, Place, Tag, Limit, Later}
 use Rattle.script_text.specs.Forms.{form_of}
@@ -298,6 +298,25 @@ minutes : Asks (codes "minutes 65535\n") (World (Minutes 65535) ∷ [])
 unfolding script_of with_text with_words with_line with_measures with_primary form_of measures_from command_of damage_at plain_drop soft_drop plain_add soft_add armed number parts_at bytes_of byte_of hex_on_literals
 minutes = refl
 
+-- destages wait for `go` as commands do
+destage : Asks (codes "destage 60000\n") (Destage 60000 ∷ Go ∷ [])
+unfolding script_of with_text with_words with_line with_measures with_primary form_of measures_from command_of damage_at plain_drop soft_drop plain_add soft_add armed number parts_at bytes_of byte_of hex_on_literals
+destage = refl
+
+destages_add_up : Asks (codes "destage 2\nabort 8 65535\ndestage 3\ngo\n") (Destage 2 ∷ Function 8 (Abort (record { 0 = 65535 })) ∷ Destage 3 ∷ Go ∷ [])
+unfolding script_of with_text with_words with_line with_measures with_primary form_of measures_from command_of damage_at plain_drop soft_drop plain_add soft_add armed number parts_at bytes_of byte_of hex_on_literals
+destages_add_up = refl
+
+-- Number: no destage
+destage_of_none : Refuses (codes "destage 0\n") 1 Number
+unfolding script_of with_text with_words with_line with_measures with_primary form_of measures_from command_of damage_at plain_drop soft_drop plain_add soft_add armed number parts_at bytes_of byte_of hex_on_literals
+destage_of_none = refl
+
+-- Place: the world while destages wait
+world_while_destages_wait : Refuses (codes "destage 1\nminutes 1\n") 2 Place
+unfolding script_of with_text with_words with_line with_measures with_primary form_of measures_from command_of damage_at plain_drop soft_drop plain_add soft_add armed number parts_at bytes_of byte_of hex_on_literals
+world_while_destages_wait = refl
+
 -- Later: REASSIGN BLOCKS
 reassign_blocks : Refuses (codes "cmd 1 1 S 070000000000\n") 1 Later
 unfolding script_of with_text with_words with_line with_measures with_primary form_of measures_from command_of damage_at plain_drop soft_drop plain_add soft_add armed number parts_at bytes_of byte_of hex_on_literals
@@ -312,14 +331,10 @@ mode_select_10 : Asks (codes "cmd 1 1 S 55000000000000000100 *08\n") (Command 1 
 unfolding script_of with_text with_words with_line with_measures with_primary form_of measures_from command_of damage_at plain_drop soft_drop plain_add soft_add armed number parts_at bytes_of byte_of hex_on_literals
 mode_select_10 = refl
 
--- Later: background turns, write faults and the power are in order
+-- Later: the scan, write faults and the power are in order
 scan : Refuses (codes "scan 60000\n") 1 Later
 unfolding script_of with_text with_words with_line with_measures with_primary form_of measures_from command_of damage_at plain_drop soft_drop plain_add soft_add armed number parts_at bytes_of byte_of hex_on_literals
 scan = refl
-
-destage : Refuses (codes "destage 60000\n") 1 Later
-unfolding script_of with_text with_words with_line with_measures with_primary form_of measures_from command_of damage_at plain_drop soft_drop plain_add soft_add armed number parts_at bytes_of byte_of hex_on_literals
-destage = refl
 
 cut_now : Refuses (codes "cut now\n") 1 Later
 unfolding script_of with_text with_words with_line with_measures with_primary form_of measures_from command_of damage_at plain_drop soft_drop plain_add soft_add armed number parts_at bytes_of byte_of hex_on_literals

@@ -17,11 +17,11 @@ is_served_event (Arm k tear) = false
 is_served_event Power = false
 is_served_event (Minutes n) = true
 
--- commands of these codes, task management functions, damage, and minutes that pass
+-- commands of these codes, task management functions, destages, damage, and minutes that pass
 abbrev pub is_served : Line → Bool
 is_served (Command i t a cdb sent) = is_served_code (slice_index cdb 0)
 is_served (Function i what) = true
 is_served (Scan n) = false
-is_served (Destage n) = false
+is_served (Destage n) = true
 is_served Go = true
 is_served (World event) = is_served_event event

@@ -12,9 +12,9 @@ pub fn is_served(line: &Line) -> bool
 {
     match line {
         Line::Command { cdb, .. } => is_served_code(byte(cdb.bytes(), 0)),
-        Line::Function { .. } | Line::Go => true,
+        Line::Function { .. } | Line::Destage { .. } | Line::Go => true,
         Line::World { world } => is_served_event(world),
-        Line::Scan { .. } | Line::Destage { .. } => false,
+        Line::Scan { .. } => false,
     }
 }
 

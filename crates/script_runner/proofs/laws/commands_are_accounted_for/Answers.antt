@@ -1,5 +1,5 @@
 use Rattle.block_machine.specs.Laws.{EndsHaveTheirStatus, NoneEndsTwice, SuccessesFollowStarts}
-use Rattle.block_machine.proofs.Counting.{none_ends_twice}
+use Rattle.block_machine.proofs.Ends.{none_ends_twice}
 use Rattle.block_machine.proofs.Starts.{successes_follow_starts}
 use Rattle.block_machine.proofs.Statuses.{ends_have_their_status}
 use Rattle.script_runner.proofs.RunLaws.{none_is_left, all_are_gone, of_task_legal}

@@ -1,9 +1,8 @@
 -- the flags so far are those of the queues
-use Rattle.std.proofs.Common.{◌≡◌, ◌∙◌, ap, sym, refl, length, Bool, false, not, nat_eq, List}
+use Rattle.std.proofs.Common.{◌≡◌, ◌∙◌, ap, sym, refl, length, not, nat_eq}
 use Rattle.std.proofs.lemmas.List.{length-map}
-use Rattle.drive_scene.specs.declared.answer.Waiting.{Waiting}
 use Rattle.script_runner.proofs.Places.{one_more, all_set}
-use Rattle.script_runner.proofs.queues.Queues.waiting.Goals as goal
+use Rattle.script_runner.proofs.queues.Queues.have_something.Goals as goal
 
 pub loop-place-init : goal.loop-place-init
 loop-place-init c = refl
@@ -17,8 +16,7 @@ loop-place-preserved c =
 pub returns-clause-value : goal.returns-clause-value
 returns-clause-value c =
     let eight = c.deref-queue-items.ensures.len ∙ c.self.invariant in
-    rw (← c.self.view_is, ← c.deref-queue-items.ensures.value) (ap (λ (a : List Bool). let w : Waiting = record { arrivals = a; scans = false; destages = false } in w)
-    (c.loop-place.invariant ∙ all_set (λ q. q.items) c.deref-queue-items.result.now c.loop-place.place c.loop-place-test.false eight))
+    rw (← c.self.view_is, ← c.deref-queue-items.ensures.value) (c.loop-place.invariant ∙ all_set (λ q. q.items) c.deref-queue-items.result.now c.loop-place.place c.loop-place-test.false eight)
 
 pub returns-clause-eight : goal.returns-clause-eight
 returns-clause-eight c = rw (← c.self.view_is) (length-map c.self.inside.queues.items (λ q. q.items) ∙ (ap length (sym c.deref-queue-items.ensures.value) ∙ c.deref-queue-items.ensures.len ∙ c.self.invariant))
