@@ -375,6 +375,14 @@ fn sectors_checked(words: &[[u8; 148]; 4], count: u32) -> u32 {
     })
 }
 
+fn summed(codeword: &[u8; 148], count: u32) -> u32 {
+    let mut word = *codeword;
+    (0..count).fold(0, |checksum, turn| {
+        word[(turn % 148) as usize] = turn as u8;
+        mixed(checksum, syndromes(&word)[(turn % 16) as usize])
+    })
+}
+
 fn checked(words: &[[u8; 148]; 4], count: u32) -> u32 {
     (0..count).fold(0, |checksum, turn| mixed(checksum, is_codeword(&words[(turn % 4) as usize]) as u8))
 }
@@ -398,6 +406,7 @@ fn main() {
     let words = [encode(&data(3)), encode(&data(5)), encode(&data(9)), encode(&data(17))];
     let checksum = match arguments[1].as_str() {
         "encode" => encoded(count),
+        "syndromes" => summed(&words[0], count),
         "check" => checked(&words, count),
         "check_copy" => checked_and_copied(&words, count),
         "encode_sector" => sectors_encoded(count),

@@ -176,6 +176,13 @@ fn clean_samples_give_their_channel_bits(rt: HostRuntime) {
     let mut found = [0u64; 149];
     assert!(rt; channel_of_clean(&samples, &mut found));
     assert_eq!(rt; found.as_slice(), words.as_slice());
+    for count in [0usize, 1, 63, 64, 65, 128] {
+        let mut full = [u64::MAX; 149];
+        assert!(rt;
+            channel_of_clean(&samples[..count.min(9478)], &mut full),
+            "of {count}"
+        );
+    }
     for k in 0..9478usize {
         let kept = samples[k];
         samples[k] = 31;

@@ -1,10 +1,15 @@
+ghost use Rattle.std.specs.Prelude.{◌≡◌, [], ◌∷◌};
+ghost use Rattle.cdb_reader.specs.Request.{request_of, ReassignBlocks};
+
+use arrayvec::ArrayVec;
 use cdb_reader::Command;
 use command_engine::*;
-use disk_base::{BLOCK_LENGTH, Bytes, DataOut, How, Lba, Stage, Value};
+use disk_base::{BLOCK_LENGTH, Bytes, DataOut, How, Lba, MoveWhy, Stage, Value};
 use mode_pages::Settings;
 use sense_data::codes::{
-    DEFECT_LIST_NOT_FOUND, RECOVERED_WITH_CORRECTION_AND_RETRIES, RECOVERED_WITH_NEGATIVE_OFFSET,
-    RECOVERED_WITH_POSITIVE_OFFSET, RECOVERED_WITH_RETRIES, UNRECOVERED_READ_ERROR, WRITE_ERROR,
+    DEFECT_LIST_NOT_FOUND, NO_DEFECT_SPARE, RECOVERED_WITH_CORRECTION_AND_RETRIES,
+    RECOVERED_WITH_NEGATIVE_OFFSET, RECOVERED_WITH_POSITIVE_OFFSET, RECOVERED_WITH_RETRIES,
+    UNRECOVERED_READ_ERROR, WRITE_ERROR,
 };
 use sense_data::{Reply, Sense};
 use std::process::Abort;
@@ -72,6 +77,33 @@ fn faulted(rt: &impl Abort, work: &mut Work) {
         }
         _ => assert!(rt; false),
     }
+}
+
+// Answers where the need is a move, and gives that need.
+fn moved(rt: &impl Abort, work: &mut Work) -> Need {
+    let need = work.need();
+    match need {
+        Need::Move { .. } => work.answer(Answer::Moved),
+        _ => assert!(rt; false),
+    }
+    need
+}
+
+fn spareless(rt: &impl Abort, work: &mut Work) {
+    match work.need() {
+        Need::Move { .. } => work.answer(Answer::NoSpare),
+        _ => assert!(rt; false),
+    }
+}
+
+// REASSIGN BLOCKS of two blocks.
+fn reassigning(first: u64, second: u64) -> Command
+    ensures { request_of result ≡ ReassignBlocks (record { 0 = first } ∷ record { 0 = second } ∷ []) }
+{
+    let mut blocks = ArrayVec::new();
+    blocks.push(Lba(first));
+    blocks.push(Lba(second));
+    Command::ReassignBlocks { blocks }
 }
 
 fn plain(b: u64, medium: bool) -> Need {
@@ -252,6 +284,53 @@ fn a_sync_whose_write_faults(rt: HostRuntime) {
     work.answer(Answer::NextDirty(Some(Lba(4))));
     faulted(&rt, &mut work);
     assert!(rt; work.ending() == at_block(WRITE_ERROR, 4));
+}
+
+#[test]
+fn blocks_of_a_list_are_moved(rt: HostRuntime) {
+    let mut work = Work::new(reassigning(5, 9), DataOut::Nothing, REPORTING);
+    assert!(rt; work.need() == plain(5, true));
+    work.answer(Answer::NextDirty(Some(Lba(5))));
+    assert!(rt;
+        moved(&rt, &mut work)
+            == Need::Move {
+                b: Lba(5),
+                why: MoveWhy::Dirty
+            }
+    );
+    assert!(rt; got(&rt, &mut work, ZEROS) == plain(9, true));
+    assert!(rt; work.ending().is_none());
+    assert!(rt;
+        moved(&rt, &mut work)
+            == Need::Move {
+                b: Lba(9),
+                why: MoveWhy::Reassign
+            }
+    );
+    assert!(rt; work.need() == Need::Nothing);
+    assert!(rt; work.ending() == Some(Reply::good()));
+}
+
+#[test]
+fn a_list_ends_for_want_of_a_spare(rt: HostRuntime) {
+    let mut work = Work::new(reassigning(5, 9), DataOut::Nothing, REPORTING);
+    for _ in 0..7 {
+        missed(&rt, &mut work);
+    }
+    assert!(rt;
+        moved(&rt, &mut work)
+            == Need::Move {
+                b: Lba(5),
+                why: MoveWhy::GivenUp
+            }
+    );
+    got(&rt, &mut work, ZEROS);
+    spareless(&rt, &mut work);
+    let sense = Sense {
+        specific: 9,
+        ..NO_DEFECT_SPARE
+    };
+    assert!(rt; work.ending() == Some(Reply::check_condition(sense)));
 }
 
 #[test]

@@ -13,6 +13,11 @@ use std::test::Fail;
 // READ (10) of the first block.
 static READ: [u8; 10] = [0x28, 0, 0, 0, 0, 0, 0, 0, 1, 0];
 
+// WRITE (10) of the first block, and its data.
+static WRITE: [u8; 10] = [0x2A, 0, 0, 0, 0, 0, 0, 0, 1, 0];
+
+static SEVENS: [u8; 512] = [7; 512];
+
 // MODE SELECT (10) of 28 bytes.
 static MODE_SELECT: [u8; 10] = [0x55, 0x10, 0, 0, 0, 0, 0, 0, 28, 0];
 
@@ -33,6 +38,12 @@ static NOTHING: Waiting = Waiting {
     arrivals: [false; 8],
     scans: false,
     destages: false,
+};
+
+static A_DESTAGE: Waiting = Waiting {
+    arrivals: [false; 8],
+    scans: false,
+    destages: true,
 };
 
 // One track of 48 sectors, two of them kept back: 30 blocks. The first attempt to read the first block finds nothing.
@@ -224,5 +235,44 @@ fn changed_mode_values(rt: HostRuntime) -> Result<(), Fail> {
     let (drive, _) = send(drive, 2, Attribute::Simple, &[0, 0, 0, 0, 0, 0])?;
     let (_, answer) = any(drive)?;
     assert_eq!(rt; answer, ended(11, 2, 2));
+    Ok(())
+}
+
+// A WRITE (10) leaves the first block dirty.
+fn written(alloc: Global) -> Result<(Drive, TurnAnswer), Fail> {
+    let (drive, _) = damaged(alloc)?;
+    let (drive, _) = told(drive, 1)?;
+    let data = Vec::from_slice(alloc, &SEVENS)?;
+    let sent = DataOut::Given(Bytes::from_vec(data));
+    let (drive, _) = send_with(drive, 1, Attribute::Simple, &WRITE, sent)?;
+    let (drive, _) = any(drive)?;
+    any(drive)
+}
+
+#[test]
+fn nothing_to_destage(rt: HostRuntime) -> Result<(), Fail> {
+    let (mut drive, _) = damaged(rt.alloc())?;
+    let answer = drive.turn(Event::Destage)?;
+    assert_eq!(rt; answer, TurnAnswer::Idle { coming: 0 });
+    assert_eq!(rt; drive.pick(&A_DESTAGE, 0), None);
+    Ok(())
+}
+
+// A destage writes the dirty block out, which then is clean.
+#[test]
+fn a_destage(rt: HostRuntime) -> Result<(), Fail> {
+    let (mut drive, answer) = written(rt.alloc())?;
+    assert_eq!(rt; answer, ended(6, 1, 0));
+    assert!(rt; drive.store().cached().is_dirty(Lba(0)));
+    assert_eq!(rt; drive.pick(&NOTHING, 0), None);
+    assert_eq!(rt; drive.pick(&A_DESTAGE, 0), Some(Pick::Destage));
+    let answer = drive.turn(Event::Destage)?;
+    let done = TurnAnswer::Done {
+        number: 7,
+        ended: None,
+        scanned: false,
+    };
+    assert_eq!(rt; answer, done);
+    assert!(rt; !drive.store().cached().is_dirty(Lba(0)));
     Ok(())
 }

@@ -1,11 +1,15 @@
-//! The kernels. Each goes through four codewords in turn, so that no result can be kept from one turn to the next.
-use rs_sector::{are_codewords, encode, encode_sector, is_codeword, nearest, nearest_erased};
+//! The kernels. Each goes through four codewords in turn, or through words that differ, so that no result can be kept from one turn to
+//! the next.
+use rs_sector::{
+    are_codewords, encode, encode_sector, is_codeword, nearest, nearest_erased, syndromes,
+};
 
 /// The checksum of so many turns of the kernel.
 pub fn run(kernel: &str, count: u32) -> Option<u32> {
     let words = codewords();
     let checksum = match kernel {
         "encode" => encoded(count),
+        "syndromes" => summed(&words[0], count),
         "check" => checked(&words, count),
         "check_copy" => checked_and_copied(&words, count),
         "encode_sector" => sectors_encoded(count),
@@ -76,6 +80,18 @@ fn sectors_encoded(count: u32) -> u32 {
             checksum,
             words[0][147] ^ words[1][147] ^ words[2][147] ^ words[3][147],
         );
+    }
+    checksum
+}
+
+// The syndromes of a word of which each turn changes a byte.
+fn summed(codeword: &[u8; 148], count: u32) -> u32 {
+    let mut word = *codeword;
+    let mut checksum = 0;
+    for turn in 0..count {
+        word[(turn % 148) as usize] = (turn & 0xff) as u8;
+        let sums = syndromes(&word);
+        checksum = mixed(checksum, sums[(turn % 16) as usize]);
     }
     checksum
 }

@@ -1,5 +1,6 @@
 ghost use Rattle.std.specs.Prelude.{◌≡◌, ◌+◌, ◌≤◌, ◌<◌};
 
+mod moves;
 mod recoveries;
 
 use channel_path::{Path, SAMPLES};

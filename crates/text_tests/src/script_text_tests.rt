@@ -18,9 +18,9 @@ const REFUSED: [(&str, u32, Why); 16] = [
         Why::Tag,
     ),
     ("scan 60000\n", 1, Why::Later),
-    ("destage 1\n", 1, Why::Later),
     ("fault 16\n", 1, Why::Later),
     ("cut now\n", 1, Why::Later),
+    ("cut write 1 none 0\n", 1, Why::Later),
     ("power\n", 1, Why::Later),
     ("cmd 1 1 S 070000000000\n", 1, Why::Later),
     ("damage 16 0 1 hard add 0\n", 1, Why::Number),
@@ -43,10 +43,10 @@ fn refusal_of(alloc: Global, bytes: &[u8]) -> Option<(u32, Why)> {
 
 // A script with a comment, digits of either case and no end, and as it is printed.
 const READ: &str =
-    "# a comment\n\ndisk 2 1 32 2\nprimary 16\ncmd 1 7 S 28000000000000000100\ncmd 2 7 O 000000000000\nabort 8 7\ngo\nminutes 65535\ndamage 0 5 1 soft 255 add -127\ncmd 1 7 S 2a000000000000000100 =01ab";
+    "# a comment\n\ndisk 2 1 32 2\nprimary 16\ncmd 1 7 S 28000000000000000100\ncmd 2 7 O 000000000000\nabort 8 7\ndestage 600\ngo\nminutes 65535\ndamage 0 5 1 soft 255 add -127\ncmd 1 7 S 2a000000000000000100 =01ab";
 
 const PRINTED: &str =
-    "disk 2 1 32 2\nprimary 16\ncmd 1 7 S 28000000000000000100\ncmd 2 7 O 000000000000\nabort 8 7\ngo\nminutes 65535\ndamage 0 5 1 soft 255 add -127\ncmd 1 7 S 2A000000000000000100 =01AB\ngo\n";
+    "disk 2 1 32 2\nprimary 16\ncmd 1 7 S 28000000000000000100\ncmd 2 7 O 000000000000\nabort 8 7\ndestage 600\ngo\nminutes 65535\ndamage 0 5 1 soft 255 add -127\ncmd 1 7 S 2A000000000000000100 =01AB\ngo\n";
 
 fn printed(alloc: Global, text: &str) -> Result<Bytes, Fail> {
     let script = read_script(alloc, text.as_bytes())?;

@@ -9,7 +9,7 @@ use std::alloc::Global;
 use std::test::Fail;
 
 // Arms a cut for the `k`-th write from here.
-fn arm(store: &mut Store, k: u32, left: Left) -> Result<(), Fail>
+pub(super) fn arm(store: &mut Store, k: u32, left: Left) -> Result<(), Fail>
     requires { 1 ≤ k }
 {
     store.reserve(1)?;
@@ -28,7 +28,7 @@ fn commit(store: &mut Store) -> Result<CommitAnswer, Fail> {
     Ok(store.commit(&[]))
 }
 
-fn recover(store: &mut Store) -> Result<RecoverAnswer, Fail> {
+pub(super) fn recover(store: &mut Store) -> Result<RecoverAnswer, Fail> {
     if !store.platter().is_off() {
         return Err(Fail::from("the power is on"));
     }

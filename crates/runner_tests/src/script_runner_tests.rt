@@ -18,6 +18,32 @@ const FIRST_REPORT: &[u8] = b"1 arrive 1 > in 1 1 7 S 000000000000 -
 turns 2 commands 1 good 0 check 1 full 0 aborted 0 cut 0 strays 0
 ";
 
+// A sync hardens one of three dirty blocks, and destages the other two; of three that are asked for none is left to come.
+const DESTAGES: &[u8] = b"disk 1 1 48 2
+cmd 1 7 S 000000000000
+go
+cmd 1 8 S 2A000000000500000300 *11
+go
+cmd 1 9 S 35000000000500000100
+destage 1
+destage 2
+";
+
+const DESTAGES_REPORT: &[u8] = b"1 arrive 1 > in 1 1 7 S 000000000000 -
+2 work 1 > start 1 > end 1 02 700006000000000A00000000290100000000
+3 arrive 1 > in 2 1 8 S 2A000000000500000300 *11
+4 work 2 > start 2
+5 work 2 > put 2 5 *11
+6 work 2 > put 2 6 *11
+7 work 2 > put 2 7 *11 > end 2 00
+8 arrive 1 > in 3 1 9 S 35000000000500000100 -
+9 work 3 > start 3
+10 work 3 < wrote 21 > hard 3 5 > end 3 00
+11 destage < wrote 22 > hard d 6
+12 destage < wrote 23 > hard d 7
+turns 12 commands 3 good 2 check 1 full 0 aborted 0 cut 0 strays 0
+";
+
 pub(crate) fn bytes(alloc: Global, text: &[u8]) -> Result<Bytes, Fail> {
     Ok(Bytes::from_vec(text.to_vec(alloc)?))
 }
@@ -61,7 +87,6 @@ fn refusals(rt: HostRuntime) -> Result<(), Fail> {
         (b"cmd 9 1 S 28000000000000000100", b"line 1: number\n"),
         (b"cmd 2 1 S 070000000000", b"line 1: later\n"),
         (b"scan 1\n", b"line 1: later\n"),
-        (b"destage 1\n", b"line 1: later\n"),
         (b"fault 16\n", b"line 1: later\n"),
         (b"cut now\n", b"line 1: later\n"),
         (b"cut write 1 none 0\n", b"line 1: later\n"),
@@ -73,6 +98,14 @@ fn refusals(rt: HostRuntime) -> Result<(), Fail> {
         assert_eq!(rt; got.as_slice(), b"".as_slice());
         assert_eq!(rt; said(rt.alloc(), &outcome)?.as_slice(), line);
     }
+    Ok(())
+}
+
+#[test]
+fn destages_beside_a_sync(rt: HostRuntime) -> Result<(), Fail> {
+    let (outcome, got) = served(rt.alloc(), DESTAGES, &[], 1000, &[])?;
+    assert_eq!(rt; outcome.status(), 0);
+    assert_eq!(rt; got.as_slice(), DESTAGES_REPORT);
     Ok(())
 }
 

@@ -136,19 +136,19 @@ fn pairs_that_move_no_block(rt: HostRuntime) -> Result<(), Fail> {
     Ok(())
 }
 
+// A chain from sector 16 on through as many spares as a list may have, 824 to 951.
+fn longest_chain() -> [Pair; PAIRS_MAX] {
+    let mut pairs = [pair(16, 824); PAIRS_MAX];
+    for (old, link) in (824..951).zip(pairs[1..].iter_mut()) {
+        *link = pair(old, old.wrapping_add(1));
+    }
+    pairs
+}
+
 #[test]
 fn all_pairs_as_one_chain(rt: HostRuntime) -> Result<(), Fail> {
     let size = Size::new(16, 4, 16, 200).ok_or("within the limits")?;
-    let mut pairs = [pair(16, 824); PAIRS_MAX];
-    let mut at = 16;
-    let mut spare = 824u32;
-    for pair in pairs.iter_mut() {
-        pair.old = Psn(at);
-        pair.new = Psn(spare);
-        at = spare;
-        spare = spare.wrapping_add(1);
-    }
-    let map = Map::of_lists(size, &[], &pairs, 3, 0, 0).ok_or("a chain")?;
+    let map = Map::of_lists(size, &[], &longest_chain(), 3, 0, 0).ok_or("a chain")?;
     let placer = Placer::of(&map);
     assert!(rt; placer.remap.as_slice() == [pair(16, 951)].as_slice());
     assert_eq!(rt; placer.place(Lba(0)), Psn(951));
@@ -171,26 +171,31 @@ fn agree(map: &Map, placer: &Placer) -> bool {
     true
 }
 
+// Whether both ways say the same of a map whose defect and pairs are drawn; nothing where they make no map.
+fn drawn_map_agrees(size: Size, seed: &mut u32) -> Option<bool> {
+    let defect = [Psn(drawn(seed))];
+    let pairs = [
+        pair(drawn(seed), 47),
+        pair(drawn(seed), 46),
+        pair(drawn(seed), 45),
+        pair(drawn(seed), 44),
+        pair(drawn(seed), 43),
+        pair(drawn(seed), 42),
+    ];
+    let earlier = Map::of_lists(size, &defect, &pairs[..3], 3, 0, 0)?;
+    let map = Map::of_lists(size, &defect, &pairs, 4, 1, 0)?;
+    let later = Placer::of(&earlier).with_pairs(&pairs[3..]);
+    Some(agree(&map, &Placer::of(&map)) && agree(&map, &later))
+}
+
 #[test]
 fn places_by_lists_and_by_search(rt: HostRuntime) -> Result<(), Fail> {
     let size = Size::new(1, 1, 48, 12).ok_or("within the limits")?;
     let mut seed = 1;
     let mut maps: u32 = 0;
     for _ in 0..300 {
-        let defect = [Psn(drawn(&mut seed))];
-        let pairs = [
-            pair(drawn(&mut seed), 47),
-            pair(drawn(&mut seed), 46),
-            pair(drawn(&mut seed), 45),
-            pair(drawn(&mut seed), 44),
-            pair(drawn(&mut seed), 43),
-            pair(drawn(&mut seed), 42),
-        ];
-        let earlier = Map::of_lists(size, &defect, &pairs[..3], 3, 0, 0);
-        let map = Map::of_lists(size, &defect, &pairs, 4, 1, 0);
-        if let (Some(earlier), Some(map)) = (earlier, map) {
-            assert!(rt; agree(&map, &Placer::of(&map)));
-            assert!(rt; agree(&map, &Placer::of(&earlier).with_pairs(&pairs[3..])));
+        if let Some(agrees) = drawn_map_agrees(size, &mut seed) {
+            assert!(rt; agrees);
             maps = maps.wrapping_add(1);
         }
     }

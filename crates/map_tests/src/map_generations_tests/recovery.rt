@@ -24,23 +24,56 @@ fn outcome(reads: &MapReads, size: &Size) -> Result<(u64, u8), u8> {
     }
 }
 
+// The reads without those of two sectors.
+fn without(all: &MapReads, a: usize, b: usize) -> MapReads {
+    let mut reads = *all;
+    if let Some(read) = reads.get_mut(a) {
+        *read = None;
+    }
+    if let Some(read) = reads.get_mut(b) {
+        *read = None;
+    }
+    reads
+}
+
+// One or two sectors that don't read, and what recovery decides. Slot 0 has its records at 0 to 3 and again at 4 to 7, slot 1 at 8
+// to 11 and at 12 to 15. Where slot 1 lacks a record it may have a later map than slot 0, and the map is corrupt; where slot 0 does,
+// sector 7, the last that is written of it, tells that its map is the older one, if it reads.
+static MISSING: [(usize, usize, Result<(u64, u8), u8>); 24] = [
+    (0, 0, Ok((2, 1))),
+    (1, 1, Ok((2, 1))),
+    (2, 2, Ok((2, 1))),
+    (3, 3, Ok((2, 1))),
+    (4, 4, Ok((2, 1))),
+    (5, 5, Ok((2, 1))),
+    (6, 6, Ok((2, 1))),
+    (7, 7, Ok((2, 1))),
+    (8, 8, Ok((2, 1))),
+    (9, 9, Ok((2, 1))),
+    (10, 10, Ok((2, 1))),
+    (11, 11, Ok((2, 1))),
+    (12, 12, Ok((2, 1))),
+    (13, 13, Ok((2, 1))),
+    (14, 14, Ok((2, 1))),
+    (15, 15, Ok((2, 1))),
+    (8, 12, Err(1)),
+    (9, 13, Err(1)),
+    (10, 14, Err(1)),
+    (11, 15, Err(1)),
+    (0, 4, Ok((2, 1))),
+    (1, 5, Ok((2, 1))),
+    (2, 6, Ok((2, 1))),
+    (3, 7, Err(0)),
+];
+
 #[test]
 fn sectors_that_do_not_read(rt: HostRuntime) -> Result<(), Fail> {
     let size = Size::new(16, 4, 16, 96).ok_or("measures")?;
     let all = fresh(size).ok_or("a new drive")?;
     assert!(rt; outcome(&all, &size) == Ok((2, 1)));
-    let mut reads = all;
-    reads[9] = None;
-    reads[13] = None;
-    assert!(rt; outcome(&reads, &size) == Err(1));
-    let mut reads = all;
-    reads[1] = None;
-    reads[5] = None;
-    assert!(rt; outcome(&reads, &size) == Ok((2, 1)));
-    let mut reads = all;
-    reads[3] = None;
-    reads[7] = None;
-    assert!(rt; outcome(&reads, &size) == Err(0));
+    for (a, b, decided) in MISSING.iter() {
+        assert!(rt; outcome(&without(&all, *a, *b), &size) == *decided);
+    }
     Ok(())
 }
 
@@ -52,6 +85,9 @@ fn choose(reads: &mut MapReads, all: &MapReads, slot: usize, bits: u32) {
     }
 }
 
+// Each record of a slot has two copies, so 3^4 = 81 choices of its 256 leave the slot complete. Slot 1 is then taken where slot 0
+// is complete as well, or sector 7 reads: 81 + 128 - 54 = 155 choices. Where slot 0 alone is complete, slot 1 makes the map corrupt
+// in all its 175 other choices, as its last sector reads as no older record; all that is left is corrupt by slot 0.
 #[test]
 fn each_choice_of_sectors_that_read(rt: HostRuntime) -> Result<(), Fail> {
     let size = Size::new(16, 4, 16, 96).ok_or("measures")?;
@@ -72,8 +108,8 @@ fn each_choice_of_sectors_that_read(rt: HostRuntime) -> Result<(), Fail> {
             }
         }
     }
-    assert_eq!(rt; newer, 12_555);
-    assert_eq!(rt; corrupt_1, 14_175);
-    assert_eq!(rt; corrupt_0, 38_806);
+    assert_eq!(rt; newer, 81 * 155);
+    assert_eq!(rt; corrupt_1, 175 * 81);
+    assert_eq!(rt; corrupt_0, 65_536 - 81 * 155 - 175 * 81);
     Ok(())
 }

@@ -1,0 +1,13 @@
+//! Tests of places, records of the map, the cache, and moves.
+#![tactic(auto)]
+
+#[cfg(test)]
+mod defect_lists_tests;
+#[cfg(test)]
+mod geometry_map_tests;
+#[cfg(test)]
+mod map_generations_tests;
+#[cfg(test)]
+mod move_jobs_tests;
+#[cfg(test)]
+mod write_cache_tests;
