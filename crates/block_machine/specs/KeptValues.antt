@@ -1,4 +1,4 @@
--- More laws on the values of a block in legal histories, over earlier power cuts too, in words on entries alone.
+-- More laws on the values of a block in legal histories, over earlier power cuts too, in words on entries.
 use Rattle.std.specs.Prelude.{◌≡◌, ◌≢◌, ℕ, ◌==◌, Bool, true, false, if◌then◌else◌, IsTrue, AllPairs, List, [], ◌∷◌, fold}
 use Rattle.std.specs.List.{list_any}
 use Rattle.disk_base.specs.declared.address.Lba.{Lba}

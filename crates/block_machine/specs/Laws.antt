@@ -1,4 +1,4 @@
--- Laws on legal histories, in words on entries alone.
+-- Laws on legal histories, in words on entries, and on the settings that entries leave.
 use Rattle.std.specs.Prelude.{◌≡◌, ℕ, zero, suc, ◌+◌, ◌-◌, ◌≤◌, ◌==◌, ◌||◌, Bool, true, false, not, if◌then◌else◌, IsTrue, List, [], ◌∷◌, ◌++◌, fold, filter, length, slice_get, Result, Ok}
 use Rattle.std.specs.List.{list_any, list_all, range_with_len}
 use Rattle.std.specs.Option.{option_map_or}
@@ -217,7 +217,7 @@ tally_after t other = t
 abbrev pub tally_of : List Entry → Tally
 tally_of entries = fold tally_after tally_at_start entries
 
--- a law: the commands that came are those that ended, were aborted, were cut off, and are still in, which are the task set's
+-- a law: as many commands came as ended, were aborted, were cut off, and are still in, and these are the task set's
 abbrev pub CommandsAreAccountedFor : Type 0
 CommandsAreAccountedFor = (capacity : ℕ) (waiting : Waiting) (turns : List Turn) → IsTaskLegal capacity waiting turns
     → ((tally_of (entries_of turns)).came

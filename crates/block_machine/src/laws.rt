@@ -45,8 +45,8 @@ pub fn forced_writes_are_hardened()
     ensures { OfTaskLegalHistories ForcedWritesAreHardened }
 {}
 
-/// The commands that came are those that ended, were aborted, were cut off, and are still in. Each end is GOOD, CHECK
-/// CONDITION or TASK SET FULL; none has two ends, of which one may be an abort; and one that ends with success started.
+/// As many commands came as ended, were aborted, were cut off, and are still in. Each end is GOOD, CHECK CONDITION or TASK SET
+/// FULL; none has two ends, of which one may be an abort; and one that ends with success started.
 pub fn commands_are_accounted_for()
     ensures sum { CommandsAreAccountedFor }
     ensures statuses { OfTaskLegalHistories EndsHaveTheirStatus }
@@ -83,14 +83,15 @@ pub fn entries_fit_their_stage()
     ensures { OfTaskLegalHistories EntriesFitTheirStage }
 {}
 
-/// What was put at a block of a sync's range before the sync started, or that the block was given up, is hardened before the sync
-/// ends GOOD, where the power stayed on from then to the start.
+/// What was put at a block of a sync's range before the sync started, or that the block was given up, is followed by a harden of
+/// that block before the sync ends with success, where the power stayed on from then to the start.
 pub fn syncs_harden_what_was_put()
     ensures { OfLegalHistories SyncsHardenWhatWasPut }
 {}
 
-/// Once a write that goes through has succeeded, or a sync of what was put before it started, what was put is what each later read of
-/// the block gives that isn't bad, over any power cuts, until something newer is put or the block is given up.
+/// Once a write that goes through has succeeded, or a sync of what was put before it started, with the power on from the put to that
+/// start, what was put is what each later read of the block gives that isn't bad, over any power cuts, until something newer is put
+/// or the block is given up.
 pub fn hardened_writes_stand()
     ensures forced { OfLegalHistories ForcedWritesStand }
     ensures synced { OfLegalHistories SyncedValuesStand }

@@ -79,7 +79,8 @@ pub fn clean_samples_give_their_word_back()
     ensures { CleanSamplesTell }
 {}
 
-/// A law: distance 0 has one word. So an allowed word whose clean samples these are is the detected one.
+/// A law: a word is at distance 0 from samples exactly where they are its clean samples, and no two words have the same clean
+/// samples. So an allowed word whose clean samples these are is the detected one.
 pub fn clean_samples_have_one_word()
     ensures { CleanSamplesHaveOneWord }
 {}

@@ -87,14 +87,15 @@ pub fn writes_put_each_block_once()
     ensures { OfGoodRuns WritesPutEachBlockOnce }
 {}
 
-/// Without strays, what was put at a block of a sync's range before the sync started, or that the block was given up, is hardened
-/// before the sync ends GOOD, where the power stayed on from then to the start.
+/// Without strays, what was put at a block of a sync's range before the sync started, or that the block was given up, is followed by
+/// a harden of that block before the sync ends with success, where the power stayed on from then to the start.
 pub fn syncs_harden_what_was_put()
     ensures { OfRunsWithoutStrays SyncsHardenWhatWasPut }
 {}
 
-/// Without strays, once a write that goes through has succeeded, or a sync of what was put before it started, what was put is what
-/// each later read of the block gives that isn't bad, over any power cuts, until something newer is put or the block is given up.
+/// Without strays, once a write that goes through has succeeded, or a sync of what was put before it started, with the power on from
+/// the put to that start, what was put is what each later read of the block gives that isn't bad, over any power cuts, until
+/// something newer is put or the block is given up.
 pub fn hardened_writes_stand()
     ensures forced { OfRunsWithoutStrays ForcedWritesStand }
     ensures synced { OfRunsWithoutStrays SyncedValuesStand }
