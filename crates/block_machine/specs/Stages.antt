@@ -67,7 +67,7 @@ fits_stage c stage (Blank d) = not (c == d) || is_at_work stage
 fits_stage c stage (Fresh d) = not (c == d) || is_at_work stage
 fits_stage c stage other = true
 
--- a law: of each command nothing comes before its arrival; then until its start only TASK SET FULL or an abort; and nothing behind
--- its end, its abort or a power cut
+-- a law: of each command the arrival comes first, and once; then until its start, which comes once, only an end with TASK SET FULL
+-- or an abort; and nothing behind its end, its abort or a power cut
 abbrev pub EntriesFitTheirStage : ℕ → List Turn → Type 0
 EntriesFitTheirStage capacity turns = (c : ℕ) → IsTrue (all_along (stage_after c) (fits_stage c) Coming (entries_of turns))

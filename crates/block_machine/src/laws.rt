@@ -61,7 +61,8 @@ pub fn reads_give_their_own_write()
 {}
 
 /// Of two reads of a block that aren't bad, over power cuts between, the later gives what the earlier gave or a value that was put
-/// between, where each value that was put before the earlier one was hardened, or cut off, before it.
+/// between, and none that is older than what was hardened last between. It asks that nothing is pending at the earlier read: behind
+/// each put of the block, and each give-up of it, came a harden of the block or a power cut.
 pub fn ruled_out_values_stay_out()
     ensures { OfLegalHistories RuledOutValuesStayOut }
 {}
@@ -77,8 +78,8 @@ pub fn writes_put_each_block_once()
     ensures { OfTaskLegalHistories WritesPutEachBlockOnce }
 {}
 
-/// Of each command nothing comes before its arrival; then until its start only TASK SET FULL or an abort; and nothing behind its
-/// end, its abort or a power cut.
+/// Of each command the arrival comes first, and once; then until its start, which comes once, only an end with TASK SET FULL or an
+/// abort; and nothing behind its end, its abort or a power cut. An entry that names no command fits everywhere.
 pub fn entries_fit_their_stage()
     ensures { OfTaskLegalHistories EntriesFitTheirStage }
 {}
