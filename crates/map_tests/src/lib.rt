@@ -1,4 +1,4 @@
-//! Tests of places, records of the map, the cache, and moves.
+//! Tests of places, records of the map, the cache, moves, and the moves in flight.
 #![tactic(auto)]
 
 #[cfg(test)]
@@ -9,5 +9,7 @@ mod geometry_map_tests;
 mod map_generations_tests;
 #[cfg(test)]
 mod move_jobs_tests;
+#[cfg(test)]
+mod move_table_tests;
 #[cfg(test)]
 mod write_cache_tests;
