@@ -6,7 +6,6 @@ use Rattle.std.proofs.lemmas.Bool.{eq-eqb, eqb-true, lt-ltb}
 use Rattle.std.proofs.lemmas.List.Elements.{All-from_recursion}
 use Rattle.disk_base.specs.declared.address.Lba.{Lba}
 use Rattle.disk_base.specs.declared.block.Value.TheVariants.{Data}
-use Rattle.platter_model.specs.declared.op.Op.{Op}
 use Rattle.platter_model.specs.declared.op.Op.TheVariants.{Wrote}
 use Rattle.sector_store.specs.State.{placed}
 use Rattle.task_set.specs.declared.member.Member.{Member}
@@ -18,14 +17,16 @@ use Rattle.block_machine.specs.declared.turn.Label.{Label}
 use Rattle.block_machine.specs.declared.turn.Label.TheVariants.{Destage}
 use Rattle.block_machine.specs.Blocks.{is_dirty}
 use Rattle.block_machine.proofs.Booleans.{and_both}
-use Rattle.drive_scene.specs.declared.event.Holder.TheVariants as holder
 use Rattle.drive_scene.specs.Background.{stuck_by}
-use Rattle.drive_scene.specs.Scene.{Scene, Beat, capacity, scene_after}
+use Rattle.drive_scene.specs.Scene.{Scene, Beat, capacity}
+use Rattle.drive_scene.specs.After.{back_by_move, scene_after}
 use Rattle.drive_scene.specs.Holds.{held_block, held_by_plan, holder_besides, holds, destaged}
 use Rattle.drive_scene.specs.GoodTurn.{WritesBlockData, IsStep, IsDestageTurn}
-use Rattle.drive_scene.specs.Kinds.{hardened_blocks, destage_of, MayDestage, IsAfterDestage}
+use Rattle.drive_scene.specs.Kinds.{hardened_blocks, destage_of, IsAfterDestage}
 use Rattle.drive_scene.specs.Laws.{DestagesAreGood, DestagesLeaveCommands}
 use Rattle.drive_scene.proofs.Tables.{put_at-own, put_at-other, within_map}
+use Rattle.drive_scene.proofs.Holders.{no_command}
+use Rattle.drive_scene.proofs.Uncommitted.{stuck_by_move}
 use Rattle.drive_scene.proofs.HardenTurns.{dirty-newest, hardened-newest, unstrayed, stood_written, written_about, writes_newest}
 
 -- who holds a block, where no command does
@@ -43,7 +44,7 @@ found_any (x ∷ xs) q test m there holds none =
         cc
     by rest false e found false is free = rest found free
 
-nobody : (o : Option Member) → option_map holder.Command (option_map (λ (m : Member). m.task.c) o) ≡ None → o ≡ None
+nobody : (o : Option Member) → option_map (λ (m : Member). m.task.c) o ≡ None → o ≡ None
 nobody None is = refl
 nobody (Some m) is = absurd (cc)
 
@@ -56,7 +57,7 @@ not_destaged s q b n free held same = by (member_of s.hist.set q) refl held
     by None is never = cc
     by (Some m) is some =
         let holds_it : holds s b q ≡ true = ap (λ (o : Option ℕ). option_map_or (λ h. eqb h b) o false) held ∙ eq-eqb n b same in
-        found_any s.hist.set q (holds s b) m is holds_it (nobody _ free)
+        found_any s.hist.set q (holds s b) m is holds_it (nobody _ (no_command s Destage b free))
 
 -- what was found passes the test
 found_passes : (p : ℕ → Bool) (xs : List ℕ) (x : ℕ) → find p xs ≡ Some x → p x ≡ true
@@ -97,6 +98,7 @@ good_destage s b bytes may =
             (((b, bytes, within_map s b may.size may.below, refl), ap (λ (t : Bool). t || false) (eq-eqb b.0 b.0 refl)), tt);
         own = tt;
         order = refl;
+        waits = refl;
         window = may.windows;
         held = λ q below about. let same = written_about s b q bytes may.own_sector below about in ap (λ (n : ℕ). holder_besides s Destage n) same ∙ free;
         stands = stood_written s.map s.ops (s.ops ++ Wrote (placed s.map b bytes) ∷ []) b bytes s.hist.blocks (hardened_blocks s b) (unstrayed s.ops _)
@@ -127,4 +129,5 @@ unstuck stuck [] none n = none n
 unstuck stuck (e ∷ es) none n = unstuck (stuck_by stuck e) es (unstuck_by stuck e none) n
 
 pub quiet_back : (s : Scene) (t : Beat) → ((n : ℕ) → s.back.stuck n ≡ false) → (n : ℕ) → (scene_after s t).back.stuck n ≡ false
-quiet_back s t none n = unstuck s.back.stuck t.entries none n
+quiet_back s t none n =
+    unstuck (back_by_move s t.label t.ops).stuck t.entries (λ k. ap (λ (stuck : ℕ → Bool). stuck k) (stuck_by_move s t.ops t.label) ∙ none k) n

@@ -4,7 +4,8 @@ use Rattle.std.specs.Option.{option_map_or, option_and_then}
 use Rattle.task_set.specs.declared.member.Member.{Member}
 use Rattle.task_set.specs.Members.{member_of}
 use Rattle.block_machine.specs.Blocks.{is_dirty}
-use Rattle.drive_scene.specs.Scene.{Scene, capacity, scene_after, settings_by, recovered_by, windows_with, window_after, beat}
+use Rattle.drive_scene.specs.Scene.{Scene, capacity, beat}
+use Rattle.drive_scene.specs.After.{scene_after, settings_by, recovered_by, windows_with, window_after}
 use Rattle.drive_scene.specs.Holds.{held_by_plan, held_block}
 use Rattle.drive_scene.specs.View.{view}
 use Rattle.std.proofs.lemmas.List.Sums.{fold_push}

@@ -23,7 +23,7 @@ use Rattle.cdb_reader.specs.declared.plan.Plan.{Plan}
 use Rattle.cdb_reader.specs.declared.plan.Plan.TheVariants as plan
 use Rattle.block_machine.specs.Blocks.{Blocks, is_dirty, newest}
 use Rattle.block_machine.specs.State.{State, owed_by}
-use Rattle.drive_scene.specs.Background.{Flight}
+use Rattle.move_table.specs.declared.flight.Flight.{Flight}
 use Rattle.drive_scene.specs.Scene.{Scene}
 use Rattle.drive_scene.specs.Evidence.{FailedBelow}
 use Rattle.drive_scene.specs.Carried.{IsValueOf, IsAsStored, HasOwner}
@@ -70,6 +70,7 @@ flights_stay s u f is leaves =
     let same : stored u.map u.ops b ≡ stored s.map s.ops b = ap (value_in b) (ap (λ (p : Psn). meant p u.ops) leaves.place ∙ leaves.at_place) in
     record {
       numbered = omega (arith, is.numbered, leaves.opened);
+      underway = is.underway;
       below = subst (λ (z : Size). b.0 < capacity_of z) (sym leaves.size) is.below;
       chain = subst (λ (p : Psn). IsChain p f.job.chain) (sym leaves.place) is.chain;
       begun = is.begun;

@@ -33,7 +33,8 @@ use Rattle.mode_pages.specs.declared.settings.Settings.{Settings}
 use Rattle.std.specs.Cmp.{signed_Decides}
 use Rattle.block_machine.proofs.Booleans.{and_both}
 use Rattle.command_engine.specs.declared.step.Recovery.{Recovery}
-use Rattle.drive_scene.specs.Scene.{Scene, Beat, capacity, settings_by, recovered_by, windows_with, beat}
+use Rattle.drive_scene.specs.Scene.{Scene, Beat, capacity, beat}
+use Rattle.drive_scene.specs.After.{settings_by, recovered_by, windows_with}
 use Rattle.drive_scene.specs.Holds.{holder_besides}
 use Rattle.drive_scene.specs.Evidence.{IsGot, window_now, settings_now}
 use Rattle.drive_scene.specs.GoodTurn.{IsStood, IsAllowed, WritesBlockData, is_at_sector, is_on}
@@ -41,7 +42,6 @@ use Rattle.drive_scene.specs.Present.{IsPresentMap}
 use Rattle.drive_scene.proofs.Tables.{put_at-own, put_at-other}
 use Rattle.drive_scene.proofs.Gets.{is_dirty-after_get, allowed-after_get}
 use Rattle.drive_scene.proofs.Tries.{no_strays-before}
-use Rattle.drive_scene.specs.Half.{Half}
 use Rattle.drive_scene.proofs.Doing.{quiet-begun}
 use Rattle.drive_scene.specs.Kinds.{AreQuietAt, got_state}
 use Rattle.drive_scene.specs.Laws.{GetsAreHalves, TriesAreHalves}

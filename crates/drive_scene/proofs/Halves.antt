@@ -28,15 +28,15 @@ use Rattle.block_machine.specs.Turns.{is_start, is_end, starts_alone, owes_nothi
 use Rattle.block_machine.proofs.Alongs.{along_both, along_first}
 use Rattle.block_machine.proofs.Booleans.{and_both}
 use Rattle.geometry_map.specs.DefectMap.{place_of}
-use Rattle.drive_scene.specs.Scene.{Scene, capacity, scene_after, beat}
+use Rattle.drive_scene.specs.Scene.{Scene, capacity, beat}
+use Rattle.drive_scene.specs.After.{scene_after}
 use Rattle.drive_scene.specs.Evidence.{Shows, IsEndShown}
-use Rattle.drive_scene.specs.GoodTurn.{GoodTurn, IsStood, WritesBlockData, is_on, is_about, is_at_sector, may_follow, rank, IsMapped}
+use Rattle.drive_scene.specs.GoodTurn.{IsStood, WritesBlockData, is_on, is_about, is_at_sector, may_follow, rank, IsMapped}
 use Rattle.drive_scene.proofs.Tables.{Along-push}
 use Rattle.drive_scene.proofs.Keyed.{find-dropped_own}
 use Rattle.drive_scene.proofs.Windows.{windows_work}
 use Rattle.drive_scene.specs.Present.{IsPresentMap}
 use Rattle.cdb_reader.specs.Replies.{good}
-use Rattle.block_machine.specs.declared.turn.Label.{Label}
 use Rattle.drive_scene.specs.Half.{Half, IsReady}
 use Rattle.drive_scene.specs.Laws.{HalvesGoOn, HalvesEnd}
 
@@ -60,8 +60,8 @@ windows_then s c ops entries h plan room half all =
     windows_work s c all ops (room.own is_in) room.all half.step
 
 -- the map of a scene is there after more operations
-mapped : (s : Scene) (label : Label) (entries : List Entry) (ops : List Op) → IsPresentMap s.map (s.ops ++ ops) → IsMapped (scene_after s (beat label entries ops))
-mapped s label entries ops present on readable = (present.there.present, present.may_be)
+mapped : (s : Scene) (c : ℕ) (entries : List Entry) (ops : List Op) → IsPresentMap s.map (s.ops ++ ops) → IsMapped (scene_after s (beat (Work c) entries ops))
+mapped s c entries ops present on readable = (present.there.present, present.may_be)
 
 -- the command goes on, and owes work on blocks
 pub goes_on : HalvesGoOn
@@ -78,10 +78,11 @@ goes_on s c ops entries h plan room present half tries settled acts = record {
   written = subst (λ (es : List Entry). All (WritesBlockData s.map es) ops) (append-nil entries) (half.written []);
   own = half.own;
   order = along_first (λ before e. rank e) may_follow 0 entries (Ended c good ∷ []) (half.order good);
+  waits = room.waits;
   window = windows_then s c ops entries h plan room half entries;
   held = half.held;
   stands = subst (λ (x : State). IsStood s.map (s.ops ++ ops) x.blocks) (sym half.reached) half.stands;
-  mapped = mapped s (Work c) entries ops present;
+  mapped = mapped s c entries ops present;
 }
 
 -- the end of a command that is owed
@@ -147,8 +148,9 @@ ends s c ops entries h plan later reply room present half tries may told end_sho
       written = half.written (Ended c reply ∷ []);
       own = list_all-append _ entries (Ended c reply ∷ []) ∙ and_both _ _ half.own (and_both _ _ (eq-eqb c c refl) refl);
       order = half.order reply;
+      waits = room.waits;
       window = windows_then s c ops entries h plan room half (entries ++ Ended c reply ∷ []);
       held = λ q below about. half.held q below (sym (end_about s c ops entries q reply) ∙ about);
       stands = subst (λ (x : State). IsStood s.map (s.ops ++ ops) x.blocks) (sym reached) half.stands;
-      mapped = mapped s (Work c) (entries ++ Ended c reply ∷ []) ops present;
+      mapped = mapped s c (entries ++ Ended c reply ∷ []) ops present;
     }

@@ -22,23 +22,19 @@ use Rattle.sector_store.specs.State.{placed}
 use Rattle.sector_store.specs.Tries.{WritesBlock}
 use Rattle.task_set.specs.declared.member.Member.{Member}
 use Rattle.task_set.specs.Members.{member_of}
-use Rattle.cdb_reader.specs.declared.plan.Plan.{Plan}
-use Rattle.cdb_reader.specs.declared.plan.Deed.TheVariants as deed
-use Rattle.cdb_reader.specs.Plan.{next}
 use Rattle.block_machine.specs.declared.array.BlockState.{BlockState}
 use Rattle.block_machine.specs.declared.entry.Entry.TheVariants.{Harden}
 use Rattle.block_machine.specs.declared.entry.Who.TheVariants.{Command}
 use Rattle.block_machine.specs.declared.turn.Label.TheVariants.{Work}
 use Rattle.block_machine.specs.Blocks.{Blocks, is_dirty, newest, allowed, same_value, after_harden, hardened_with}
 use Rattle.block_machine.specs.State.{State, owed_by}
-use Rattle.block_machine.specs.Steps.{begun, entry_after}
+use Rattle.block_machine.specs.Steps.{begun}
 use Rattle.block_machine.proofs.Booleans.{and_both}
-use Rattle.drive_scene.specs.declared.event.Holder.TheVariants as holder
 use Rattle.drive_scene.specs.Scene.{Scene, capacity}
 use Rattle.drive_scene.specs.Holds.{held_block, held_by_plan, holder_besides, holds}
 use Rattle.drive_scene.specs.GoodTurn.{IsStood, WritesBlockData, is_harden_of}
 use Rattle.drive_scene.proofs.Tables.{put_at-own, put_at-other, within_map}
-use Rattle.drive_scene.specs.Half.{Half}
+use Rattle.drive_scene.proofs.Holders.{no_command}
 use Rattle.drive_scene.proofs.Doing.{quiet-begun, owed-begun, quiet-trans, hardened_owes, hardened_quiet, hardened_lawful}
 use Rattle.drive_scene.specs.Kinds.{IsHarden, hardened_blocks}
 use Rattle.drive_scene.specs.Laws.{HardensAreHalves}
@@ -102,7 +98,7 @@ found_holder (x ∷ xs) c q test m there other holds none =
 pub not_held : (s : Scene) (c q b n : ℕ) → holder_besides s (Work c) b ≡ None → q ≢ c → held_block s q ≡ Some n → n ≢ b
 not_held s c q b n free other held same = by (member_of s.hist.set q) refl held
   where
-    nobody : (o : Option Member) → option_map holder.Command (option_map (λ m. m.task.c) o) ≡ None → o ≡ None
+    nobody : (o : Option Member) → option_map (λ m. m.task.c) o ≡ None → o ≡ None
     nobody None is = refl
     nobody (Some m) is = absurd (cc)
 
@@ -111,7 +107,7 @@ not_held s c q b n free other held same = by (member_of s.hist.set q) refl held
     by None is never = cc
     by (Some m) is some =
         let holds_it : holds s b q ≡ true = ap (λ (o : Option ℕ). option_map_or (λ h. eqb h b) o false) held ∙ eq-eqb n b same in
-        found_holder s.hist.set c q (holds s b) m is other holds_it (nobody _ free)
+        found_holder s.hist.set c q (holds s b) m is other holds_it (nobody _ (no_command s (Work c) b free))
 
 -- a write of a block is about no other block
 pub written_about : (s : Scene) (b q : Lba) (bytes : List ℕ) → ((q : Lba) → q.0 < capacity s → place_of s.map q ≡ place_of s.map b → q ≡ b) → q.0 < capacity s

@@ -17,7 +17,8 @@ use Rattle.block_machine.specs.State.{State}
 use Rattle.block_machine.specs.Steps.{entry_after}
 use Rattle.block_machine.specs.Turns.{are_aborted}
 use Rattle.block_machine.proofs.Booleans.{and_both}
-use Rattle.drive_scene.specs.Scene.{Scene, Beat, with_arrival, settings_by, recovered_by}
+use Rattle.drive_scene.specs.Scene.{Scene, Beat}
+use Rattle.drive_scene.specs.After.{with_arrival, settings_by, recovered_by}
 use Rattle.drive_scene.specs.Evidence.{Shows}
 use Rattle.drive_scene.specs.GoodTurn.{are_on, is_on, rank, may_follow}
 use Rattle.drive_scene.specs.Ending.{ended_in}

@@ -1,7 +1,6 @@
 -- What commits tell, turns of moves, what is in hand after them, and turns that are none.
-use Rattle.std.proofs.Common.{◌≡◌, ◌∙◌, ℕ, eqb, Bool, true, false, true≢false, List, [], ◌∷◌, ◌++◌, map, take, length, Option, Some, None, refl, sym, ap, arith, inl, inr, length-append, lit≤, lit<}
-use Rattle.std.specs.Prelude.{◌&&◌, ◌||◌, nat_lt, slice_index_or}
-use Rattle.std.specs.List.{list_any}
+use Rattle.std.proofs.Common.{◌≡◌, ◌∙◌, ℕ, eqb, Bool, true, false, true≢false, List, [], ◌∷◌, map, take, length, Option, Some, None, refl, sym, ap, arith, inl, inr, length-append, lit≤, lit<}
+use Rattle.std.specs.Prelude.{◌&&◌, nat_lt, slice_index_or}
 use Rattle.std.specs.Option.{option_map_or}
 use Rattle.disk_base.specs.declared.block.Value.{Value}
 use Rattle.disk_base.specs.declared.block.Value.TheVariants.{Data, Lost}
@@ -28,10 +27,12 @@ use Rattle.block_machine.specs.declared.entry.Who.TheVariants.{Command, Drive}
 use Rattle.block_machine.specs.Blocks.{Blocks, block_lawful}
 use Rattle.task_set.specs.declared.member.Member.{Member}
 use Rattle.drive_scene.specs.Background.{Background, background_at_start}
-use Rattle.drive_scene.specs.Scene.{Scene, flight}
+use Rattle.drive_scene.specs.Scene.{Scene}
+use Rattle.move_table.specs.Table.{flight, job_in}
 use Rattle.drive_scene.specs.Evidence.{lba}
+use Rattle.drive_scene.proofs.Uncommitted.{ends_cut}
 use Rattle.drive_scene.specs.Carried.{IsValueOf, commit_entries, cut_entries}
-use Rattle.drive_scene.specs.MoveTurn.{IsMoveTurn, IsMoveWork, answer_if, end_entries, move_entries, back_after_job, next_spare, is_power_cut, logged_moved, logged_unmoved, job_in}
+use Rattle.drive_scene.specs.MoveTurn.{IsMoveTurn, IsMoveWork, answer_if, end_entries, move_entries, back_after_job, next_spare, is_cut_off, logged_moved, logged_unmoved}
 
 -- a value that was found is told by nothing, a dirty one by its harden; one that was given up is given up and hardened, and new data are
 -- put and hardened
@@ -82,19 +83,19 @@ measures = record {
   };
 }
 
-abbrev small : DefectMap
+abbrev pub small : DefectMap
 small = factory_map measures []
 
 -- the move of block 5, which command 3 gave up
-abbrev given : JobStep → Job
+abbrev pub given : JobStep → Job
 given step = job_of (lba 5) Lost why.GivenUp (Some 3) (pair (sector 21) (sector 44) ∷ []) step
 
 -- the same block, found by a heavy stage for the scan
-abbrev scans : JobStep → Job
+abbrev pub scans : JobStep → Job
 scans step = job_of (lba 5) Lost why.Heavy None (pair (sector 21) (sector 44) ∷ []) step
 
 -- a drive with this move in flight alone, with number 1; block 5 was logged as unread, and command 3 is gone
-abbrev with_move : Scene → Job → Scene
+abbrev pub with_move : Scene → Job → Scene
 with_move s job = record s {
   map = small;
   hist = record s.hist { set = [] };
@@ -102,7 +103,7 @@ with_move s job = record s {
 }
 
 -- and command 3 is still in
-abbrev with_owner : Scene → Member → Job → Scene
+abbrev pub with_owner : Scene → Member → Job → Scene
 with_owner s m job = record (with_move s job) { hist = record s.hist { set = record m { task = record m.task { c = 3 } } ∷ [] } }
 
 begins_at_its_place : place_of small (lba 5) ≡ sector 21
@@ -112,21 +113,21 @@ first_of_spares : (s : Scene) → next_spare (with_move s (given Writing)) ≡ S
 first_of_spares s = refl
 
 -- the spare is written, then read, then committed
-a_write : (s : Scene) → IsMoveTurn (with_move s (given Writing)) 1 [] (Wrote (payload_on (sector 44) (lba 5) Lost) ∷ [])
+pub a_write : (s : Scene) → IsMoveTurn (with_move s (given Writing)) 1 [] (Wrote (payload_on (sector 44) (lba 5) Lost) ∷ [])
 a_write s = record { job = given Writing; in_flight = refl; work = inl (inl refl); told = refl }
 
-a_failed_write : (s : Scene) → IsMoveTurn (with_move s (given Writing)) 1 [] (WriteFailed (sector 44) ∷ [])
+pub a_failed_write : (s : Scene) → IsMoveTurn (with_move s (given Writing)) 1 [] (WriteFailed (sector 44) ∷ [])
 a_failed_write s = record { job = given Writing; in_flight = refl; work = inr refl; told = refl }
 
 a_torn_write : (s : Scene) (tear : Tear) → IsMoveTurn (with_move s (given Writing)) 1 (Cut ∷ []) (Torn (payload_on (sector 44) (lba 5) Lost) tear ∷ op.Cut ∷ [])
 a_torn_write s tear = record { job = given Writing; in_flight = refl; work = inl (inr (0, payload_on (sector 44) (lba 5) Lost, tear, refl, refl)); told = refl }
 
 -- whatever a check finds, nothing is told while a spare is left
-untold : (s : Scene) (good : Bool) → [] ≡ end_entries s (given Checking) (answered (given Checking) (answer_if good (Some (sector 45)))).step
+pub untold : (s : Scene) (good : Bool) → [] ≡ end_entries s (given Checking) (answered (given Checking) (answer_if good (Some (sector 45)))).step
 untold s true = refl
 untold s false = refl
 
-a_check : (s : Scene) (found : Option Payload) → IsMoveTurn (with_move s (given Checking)) 1 [] (try_of (length s.ops) (sector 44) check_stage found)
+pub a_check : (s : Scene) (found : Option Payload) → IsMoveTurn (with_move s (given Checking)) 1 [] (try_of (length s.ops) (sector 44) check_stage found)
 a_check s None = record { job = given Checking; in_flight = refl; work = (None, refl); told = refl }
 a_check s (Some payload) = record {
   job = given Checking;
@@ -135,7 +136,7 @@ a_check s (Some payload) = record {
   told = untold s (is_same (payload_on (sector 44) (lba 5) Lost) payload);
 }
 
-a_commit : (s : Scene) (m : Member)
+pub a_commit : (s : Scene) (m : Member)
     → IsMoveTurn (with_owner s m (given Committing)) 1 (GiveUp (lba 5) ∷ Harden (Command 3) (lba 5) ∷ []) (map Wrote (records_of (next_map small (given Committing).chain)))
 unfolding records_of
 a_commit s m = record { job = given Committing; in_flight = refl; work = inl refl; told = refl }
@@ -163,7 +164,7 @@ found_is_not_hardened s payload turn =
     absurd (omega (arith, ap length (told_of (with_move s (scans Committing)) (scans Committing) (Harden Drive (lba 5) ∷ logged_moved s (lba 5) ∷ []) (Wrote payload ∷ []) refl turn)))
 
 -- no other move is in flight
-another_move : (s : Scene) (entries : List Entry) (ops : List Op) → IsMoveTurn (with_move s (given Writing)) 2 entries ops → ⊥
+pub another_move : (s : Scene) (entries : List Entry) (ops : List Op) → IsMoveTurn (with_move s (given Writing)) 2 entries ops → ⊥
 another_move s entries ops turn = let never : None ≡ Some turn.job = turn.in_flight in absurd (cc)
 
 -- the write goes to the spare in hand
@@ -192,7 +193,7 @@ unfolding fetch_in
 wrong_number s found seven check = absurd (omega (arith, seven, ap fetch_in check.1))
 
 -- a commit has all pairs of its move: here two, of which the second begins at sector 44
-abbrev second : List Pair
+abbrev pub second : List Pair
 second = pair (sector 21) (sector 44) ∷ pair (sector 44) (sector 45) ∷ []
 
 -- the last byte of the second pair's old in the second record, which has the first pairs
@@ -200,19 +201,11 @@ second_old : List Op → ℕ
 second_old (Wrote first ∷ Wrote pairs ∷ rest) = slice_index_or pairs.block 11 0
 second_old other = 0
 
-ends_cut : (ops : List Op) (payload : Payload) (tear : Tear) → list_any is_power_cut (ops ++ Torn payload tear ∷ op.Cut ∷ []) ≡ true
-ends_cut [] payload tear = refl
-ends_cut (o ∷ ops) payload tear = either_right (is_power_cut o) _ (ends_cut ops payload tear)
-  where
-    either_right : (a b : Bool) → b ≡ true → (a || b) ≡ true
-    either_right true b is = refl
-    either_right false b is = is
-
-one_pair_fewer : IsCommit small second (map Wrote (records_of (next_map small (pair (sector 21) (sector 44) ∷ [])))) → ⊥
+pub one_pair_fewer : IsCommit small second (map Wrote (records_of (next_map small (pair (sector 21) (sector 44) ∷ [])))) → ⊥
 unfolding records_of second_old
 one_pair_fewer (inl e) = absurd (omega (arith, ap second_old e))
 one_pair_fewer (inr torn) =
-    true≢false (sym (ends_cut (map Wrote (take torn.0 (records_of (next_map small second)))) torn.1 torn.2) ∙ sym (ap (list_any is_power_cut) torn.4))
+    true≢false (sym (ends_cut (map Wrote (take torn.0 (records_of (next_map small second)))) torn.1 torn.2) ∙ sym (ap is_cut_off torn.4))
 
 -- what is in hand after it: the next spare where the write failed
 next_in_hand : (s : Scene) → (back_after_job (with_move s (given Writing)) 1 (given Writing) (WriteFailed (sector 44) ∷ [])).flights
@@ -230,10 +223,10 @@ counts_for_its_owner s = (refl, refl, refl, refl)
 abbrev all_spares : List Pair
 all_spares = pair (sector 21) (sector 44) ∷ pair (sector 44) (sector 45) ∷ pair (sector 45) (sector 46) ∷ pair (sector 46) (sector 47) ∷ []
 
-abbrev last_given : Job
+abbrev pub last_given : Job
 last_given = job_of (lba 5) Lost why.GivenUp (Some 3) all_spares Writing
 
-abbrev last_scans : Job
+abbrev pub last_scans : Job
 last_scans = job_of (lba 5) Lost why.Heavy None all_spares Writing
 
 no_spare_left : (s : Scene) → next_spare (with_move s last_given) ≡ None
@@ -244,7 +237,7 @@ leaves_its_owner_short : (s : Scene)
     (after.flights ≡ []) × (after.short 3 ≡ Some (lba 5)) × (after.short 4 ≡ None) × (after.moved 3 ≡ 0) × (after.logged 5 ≡ true)
 leaves_its_owner_short s = (refl, refl, refl, refl, refl)
 
-ends_without_a_spare : (s : Scene) → IsMoveTurn (with_move s last_scans) 1 (logged_unmoved s (lba 5) ∷ []) (WriteFailed (sector 47) ∷ [])
+pub ends_without_a_spare : (s : Scene) → IsMoveTurn (with_move s last_scans) 1 (logged_unmoved s (lba 5) ∷ []) (WriteFailed (sector 47) ∷ [])
 ends_without_a_spare s = record { job = last_scans; in_flight = refl; work = inr refl; told = refl }
 
 leaves_nobody_short : (s : Scene) (c : ℕ) → (back_after_job (with_move s last_scans) 1 last_scans (WriteFailed (sector 47) ∷ [])).short c ≡ None

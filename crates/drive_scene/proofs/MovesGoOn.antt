@@ -1,6 +1,6 @@
 -- A move that goes on is in flight after its turn.
 use Rattle.std.proofs.Common.{◌≡◌, ◌≢◌, ◌∙◌, ap, sym, subst, refl, ℕ, ◌≤◌, Bool, true, false, true≢false, cond, List, [], ◌∷◌, ◌++◌, take, Option, Some, None, inl, inr, arith, append_assoc}
-use Rattle.std.specs.Prelude.{All, length, map, ◌||◌, if◌then◌else◌}
+use Rattle.std.specs.Prelude.{All, length, map, if◌then◌else◌}
 use Rattle.std.proofs.lemmas.Bool.{eq-eqb, ne_eqb}
 use Rattle.std.proofs.lemmas.List.Elements.{All-append, All-cons, All-nil}
 use Rattle.std.proofs.lemmas.List.Sums.{fold-append}
@@ -10,15 +10,13 @@ use Rattle.disk_base.specs.declared.block.Value.{Value}
 use Rattle.disk_base.specs.declared.block.Value.TheVariants.{Data, Lost}
 use Rattle.disk_base.specs.declared.payload.Payload.{Payload}
 use Rattle.disk_base.specs.declared.stage.MoveWhy.{MoveWhy}
-use Rattle.platter_model.specs.declared.damage.Tear.{Tear}
 use Rattle.platter_model.specs.declared.op.Op.{Op}
-use Rattle.platter_model.specs.declared.op.Op.TheVariants.{Wrote, WriteFailed, Torn, Fetched, Tried}
-use Rattle.platter_model.specs.declared.op.Op.TheVariants as op
+use Rattle.platter_model.specs.declared.op.Op.TheVariants.{Wrote, WriteFailed, Fetched, Tried}
 use Rattle.platter_model.specs.Sector.{meant, meant_after}
 use Rattle.platter_model.specs.TrueLog.{strays, attempt_of}
 use Rattle.platter_model.proofs.Logs.{strays-push}
 use Rattle.geometry_map.specs.declared.pair.Pair.{Pair}
-use Rattle.geometry_map.specs.DefectMap.{IsValidMap, place_of, sector}
+use Rattle.geometry_map.specs.DefectMap.{DefectMap, IsValidMap, place_of, sector}
 use Rattle.geometry_map.specs.Chains.{IsChain, IsFreeSpare, chain_end}
 use Rattle.geometry_map.specs.Laws.{FreeSparesAreNoPlaces, GivenSparesAreNext}
 use Rattle.move_jobs.specs.declared.answer.JobAnswer.TheVariants.{Bad}
@@ -28,17 +26,21 @@ use Rattle.move_jobs.specs.Job.{job_of, pair, answered, result_of, Job, result_a
 use Rattle.move_jobs.specs.Laws.{AnswersKeepTheChain}
 use Rattle.sector_store.specs.Shapes.{payload_on, try_of}
 use Rattle.sector_store.specs.Spares.{check_stage}
-use Rattle.sector_store.specs.Stored.{value_in}
+use Rattle.sector_store.specs.Stored.{stored, value_in}
 use Rattle.block_machine.specs.declared.entry.Entry.TheVariants.{Cut}
 use Rattle.block_machine.specs.declared.turn.Label.TheVariants as label
-use Rattle.drive_scene.specs.Background.{Flight, Background}
-use Rattle.drive_scene.specs.Scene.{Scene, beat, flight, scene_after}
+use Rattle.move_table.specs.declared.flight.Flight.{Flight}
+use Rattle.move_table.specs.Table.{flight, taken, with_job}
+use Rattle.drive_scene.specs.Background.{Background}
+use Rattle.drive_scene.specs.Scene.{Scene, beat}
+use Rattle.drive_scene.specs.After.{scene_after}
 use Rattle.drive_scene.specs.Carried.{IsAsStored}
-use Rattle.drive_scene.specs.MoveTurn.{IsMoveWork, taken, next_spare, reads_back, answer_if, job_after, is_cut_off, is_power_cut, end_entries, move_entries, with_job, back_by_step}
+use Rattle.drive_scene.specs.MoveTurn.{IsMoveWork, next_spare, reads_back, answer_if, job_after, is_cut_off, end_entries, move_entries, back_by_step}
 use Rattle.drive_scene.specs.Flights.{IsFlight, MovesGoOn, flight_after}
 use Rattle.drive_scene.proofs.Tables.{within_map}
 use Rattle.drive_scene.proofs.Flights.{owner_same, owner_stays}
 use Rattle.drive_scene.proofs.CommitTurns.{end_among}
+use Rattle.drive_scene.proofs.Uncommitted.{LeavesMap, ends_cut, leaves_map, uncommitted}
 
 -- a payload on a sector names it
 pub payload_psn : (p : Psn) (b : Lba) (v : Value) → (payload_on p b v).psn ≡ p
@@ -69,15 +71,6 @@ strays_tried ops p found =
     subst (λ (os : List Op). strays ops ≤ strays os) (append_assoc ops (fetch ∷ []) (last ∷ []))
     (omega (arith, strays_pushed ops fetch, strays_pushed (ops ++ fetch ∷ []) last))
 
--- a power cut behind a torn write
-pub ends_cut : (ops : List Op) (payload : Payload) (tear : Tear) → is_cut_off (ops ++ Torn payload tear ∷ op.Cut ∷ []) ≡ true
-ends_cut [] payload tear = refl
-ends_cut (o ∷ ops) payload tear = either_right (is_power_cut o) _ (ends_cut ops payload tear)
-  where
-    either_right : (a b : Bool) → b ≡ true → (a || b) ≡ true
-    either_right true b is = refl
-    either_right false b is = is
-
 module _ (no_places : FreeSparesAreNoPlaces) (next_is_free : GivenSparesAreNext) (keep_chain : AnswersKeepTheChain)
     (s : Scene) (j : ℕ) (b : Lba) (v : Value) (why : MoveWhy) (owner : Option ℕ) (chain : List Pair)
     (size : s.map.size ≡ s.size) (valid : IsValidMap s.map) where
@@ -85,25 +78,34 @@ module _ (no_places : FreeSparesAreNoPlaces) (next_is_free : GivenSparesAreNext)
   abbrev at_step : JobStep → Flight
   at_step step = flight j (job_of b v why owner chain step)
 
+  -- it is in flight after a turn that leaves the map
+  abbrev IsAfter : List Op → Flight → Type 0
+  IsAfter ops f = LeavesMap s (beat (label.Job j) [] ops) → IsFlight (scene_after s (beat (label.Job j) [] ops)) f
+
   abbrev Goal : JobStep → List Op → Type 0
-  Goal step ops = IsFlight (scene_after s (beat (label.Job j) [] ops)) (flight_after s (at_step step) ops)
+  Goal step ops = IsAfter ops (flight_after s (at_step step) ops)
 
   -- what changes is the chain, the step, and what is meant, but not at the block's place
   moved_on : (step onward : JobStep) (more : List Pair) (ops : List Op) → IsFlight s (at_step step) → IsChain (place_of s.map b) more → more ≢ []
       → All (λ pair. IsFreeSpare s.map pair.new) more → (onward ≢ Writing → meant (chain_end (sector 0) more) (s.ops ++ ops) ≡ Some (payload_on (chain_end (sector 0) more) b v))
-      → meant (place_of s.map b) (s.ops ++ ops) ≡ meant (place_of s.map b) s.ops → strays s.ops ≤ strays (s.ops ++ ops)
-      → IsFlight (scene_after s (beat (label.Job j) [] ops)) (flight j (job_of b v why owner more onward))
-  moved_on step onward more ops is chained begun free written at_place fewer = record {
-    numbered = is.numbered;
-    below = is.below;
-    chain = chained;
-    begun = begun;
-    spares = free;
-    written = written;
-    value = is.value;
-    as_stored = λ none. subst (λ (x : Value). IsAsStored why v x) (sym (ap (value_in b) at_place)) (is.as_stored (omega (arith, none, fewer)));
-    owned = owner_same s (scene_after s (beat (label.Job j) [] ops)) why b v owner refl (owner_stays s (scene_after s (beat (label.Job j) [] ops)) why owner refl refl refl) is.owned;
-  }
+      → meant (place_of s.map b) (s.ops ++ ops) ≡ meant (place_of s.map b) s.ops → strays s.ops ≤ strays (s.ops ++ ops) → result_at onward ≡ None
+      → IsAfter ops (flight j (job_of b v why owner more onward))
+  moved_on step onward more ops is chained begun free written at_place fewer underway leaves =
+      let u : Scene = scene_after s (beat (label.Job j) [] ops) in
+      let place : place_of u.map b ≡ place_of s.map b = ap (λ (m : DefectMap). place_of m b) leaves.map in
+      let same : stored u.map u.ops b ≡ stored s.map s.ops b = ap (value_in b) (ap (λ (p : Psn). meant p u.ops) place ∙ at_place) in
+      record {
+        numbered = omega (arith, is.numbered, leaves.opened);
+        underway = underway;
+        below = is.below;
+        chain = subst (λ (p : Psn). IsChain p more) (sym place) chained;
+        begun = begun;
+        spares = subst (λ (m : DefectMap). All (λ pair. IsFreeSpare m pair.new) more) (sym leaves.map) free;
+        written = written;
+        value = is.value;
+        as_stored = λ none. subst (λ (x : Value). IsAsStored why v x) (sym same) (is.as_stored (omega (arith, none, fewer)));
+        owned = owner_same s u why b v owner place (owner_stays s u why owner (leaves.windows j refl) refl refl) is.owned;
+      }
 
   -- the block isn't at the spare in hand
   elsewhere : (step : JobStep) → IsFlight s (at_step step) → place_of s.map b ≢ chain_end (sector 0) chain
@@ -118,12 +120,12 @@ module _ (no_places : FreeSparesAreNoPlaces) (next_is_free : GivenSparesAreNext)
       let own : (payload_on (chain_end (sector 0) chain) b v).psn ≡ chain_end (sector 0) chain = payload_psn spare b v in
       moved_on Writing Checking chain (Wrote payload ∷ []) is is.chain is.begun is.spares (λ later. own_write spare s.ops payload own)
       (other_write (place_of s.map b) s.ops payload (λ same. elsewhere Writing is (one_sector _ _ (sym same ∙ ap (λ (x : Psn). x.0) own))))
-      (strays_pushed s.ops (Wrote payload))
+      (strays_pushed s.ops (Wrote payload)) refl
 
   -- the spare is bad, and the next one takes its place
   bad_spare : (step : JobStep) (ops : List Op) → IsFlight s (at_step step) → ((p : Psn) → meant p (s.ops ++ ops) ≡ meant p s.ops)
       → strays s.ops ≤ strays (s.ops ++ ops) → (next : Option Psn) → next_spare s ≡ next → result_of (answered (at_step step).job (Bad next)) ≡ None
-      → IsFlight (scene_after s (beat (label.Job j) [] ops)) (flight j (answered (at_step step).job (Bad next)))
+      → IsAfter ops (flight j (answered (at_step step).job (Bad next)))
   bad_spare step ops is quiet fewer None next_is goes = absurd (cc)
   bad_spare step ops is quiet fewer (Some p) next_is goes =
       let P : Pair → Type 0 = λ pair. IsFreeSpare s.map pair.new in
@@ -131,7 +133,7 @@ module _ (no_places : FreeSparesAreNoPlaces) (next_is_free : GivenSparesAreNext)
       let kept = keep_chain (place_of s.map b) (at_step step).job (Bad (Some p)) is.begun is.chain in
       let free : IsFreeSpare s.map p = (next_is_free s.map (taken s.back.flights) p next_is).free in
       moved_on step Writing (chain ++ last ∷ []) ops is kept.0 kept.1 (All-append P chain (last ∷ []) is.spares (All-cons P last [] free (All-nil P)))
-      (λ later. absurd (later refl)) (quiet (place_of s.map b)) fewer
+      (λ later. absurd (later refl)) (quiet (place_of s.map b)) fewer refl
 
   -- the spare was read
   checked : (found : Option Payload) → IsFlight s (at_step Checking)
@@ -146,11 +148,11 @@ module _ (no_places : FreeSparesAreNoPlaces) (next_is_free : GivenSparesAreNext)
       fewer = strays_tried s.ops (chain_end (sector 0) chain) found
 
       by : (good : Bool) → result_of (answered (at_step Checking).job (answer_if good (next_spare s))) ≡ None
-          → IsFlight (scene_after s (beat (label.Job j) [] (try_of (length s.ops) (chain_end (sector 0) chain) check_stage found)))
+          → IsAfter (try_of (length s.ops) (chain_end (sector 0) chain) check_stage found)
           (flight j (answered (at_step Checking).job (answer_if good (next_spare s))))
       by true on =
           moved_on Checking Committing chain (try_of (length s.ops) (chain_end (sector 0) chain) check_stage found) is is.chain is.begun is.spares
-          (λ later. quiet (chain_end (sector 0) chain) ∙ is.written (λ writing. never writing)) (quiet (place_of s.map b)) fewer
+          (λ later. quiet (chain_end (sector 0) chain) ∙ is.written (λ writing. never writing)) (quiet (place_of s.map b)) fewer refl
         where
           never : Checking ≡ Writing → ⊥
           never same = cc
@@ -201,6 +203,14 @@ stays_in_hand j job Checking back on = refl
 stays_in_hand j job Committing back on = refl
 stays_in_hand j job (Over end) back on = absurd (cc)
 
+-- a move that isn't over after its turn didn't need its commit
+pub going_uncommitted : (s : Scene) (b : Lba) (v : Value) (why : MoveWhy) (owner : Option ℕ) (chain : List Pair) (step : JobStep) (ops : List Op)
+    → result_of (job_after s (job_of b v why owner chain step) ops) ≡ None → step ≢ Committing
+going_uncommitted s b v why owner chain Writing ops goes same = cc
+going_uncommitted s b v why owner chain Checking ops goes same = cc
+going_uncommitted s b v why owner chain Committing ops goes same = cc
+going_uncommitted s b v why owner chain (Over end) ops goes same = cc
+
 pub moves_go_on : FreeSparesAreNoPlaces → GivenSparesAreNext → AnswersKeepTheChain → MovesGoOn
 moves_go_on no_places next_is_free keep_chain s f ops may = record {
   turn = record {
@@ -211,6 +221,7 @@ moves_go_on no_places next_is_free keep_chain s f ops may = record {
   };
   flight =
       by_step no_places next_is_free keep_chain s f.j f.job.b f.job.value f.job.why f.job.owner f.job.chain may.size may.valid f.job.step ops may.flight
-      may.work may.powered may.goes_on;
+      may.work may.powered may.goes_on
+      (leaves_map s f.j [] ops (uncommitted s f.j f.job ops may.in_flight (going_uncommitted s f.job.b f.job.value f.job.why f.job.owner f.job.chain f.job.step ops may.goes_on)));
   in_hand = stays_in_hand f.j (job_after s f.job ops) (job_after s f.job ops).step s.back may.goes_on;
 }

@@ -1,6 +1,7 @@
 -- Turns of a move leave the other moves in flight alone.
-use Rattle.std.proofs.Common.{◌≡◌, ◌≢◌, ◌∙◌, ap, sym, subst, refl, ◌≤◌, Bool, false, true≢false, List, [], ◌∷◌, ◌++◌, take, None, inl, inr, arith, get_or}
+use Rattle.std.proofs.Common.{◌≡◌, ◌≢◌, ◌∙◌, ap, sym, subst, refl, ◌≤◌, Bool, false, true≢false, List, [], ◌∷◌, ◌++◌, take, None, inl, inr, get_or}
 use Rattle.std.specs.Prelude.{All, length, map, ◌||◌, ◌==◌}
+use Rattle.std.specs.List.{list_any}
 use Rattle.std.proofs.lemmas.Bool.{ne_eqb}
 use Rattle.std.proofs.lemmas.List.Elements.{All-head, All-tail, All-weaker}
 use Rattle.std.proofs.lemmas.List.Folds.{list_any-append}
@@ -16,47 +17,56 @@ use Rattle.geometry_map.specs.Chains.{IsChain, IsFreeSpare, IsNoNew, MovesOne}
 use Rattle.geometry_map.specs.Laws.{BlocksHaveOwnSectors, BlocksLieOnUserSectors, ChainsMoveOneBlock, FreeSparesAreNoPlaces}
 use Rattle.move_jobs.specs.declared.step.JobStep.{JobStep}
 use Rattle.move_jobs.specs.declared.step.JobStep.TheVariants.{Writing, Checking, Committing, Over}
-use Rattle.move_jobs.specs.Job.{Job, spare_of, result_of}
+use Rattle.move_jobs.specs.Job.{Job, spare_of}
 use Rattle.sector_store.specs.Maps.{next_map}
 use Rattle.sector_store.specs.Shapes.{payload_on, try_of}
 use Rattle.sector_store.specs.Spares.{check_stage, SparesAreUserSectors}
-use Rattle.drive_scene.specs.Background.{Flight}
-use Rattle.drive_scene.specs.Scene.{Scene, flight, scene_after}
-use Rattle.drive_scene.specs.MoveTurn.{IsMoveWork, job_after, is_cut_off}
+use Rattle.move_table.specs.declared.flight.Flight.{Flight}
+use Rattle.drive_scene.specs.Scene.{Scene}
+use Rattle.drive_scene.specs.After.{scene_after}
+use Rattle.block_machine.proofs.Booleans.{neither}
+use Rattle.drive_scene.specs.GoodTurn.{is_at_sector}
+use Rattle.drive_scene.specs.MoveTurn.{IsMoveWork, is_cut_off}
 use Rattle.drive_scene.specs.Flights.{AreApart, MovesLeaveOthers, CommitsLeaveOthers, move_turn}
 use Rattle.drive_scene.proofs.Tables.{within_map}
 use Rattle.drive_scene.proofs.Flights.{owner_stays}
 use Rattle.drive_scene.proofs.CommitTurns.{end_among}
-use Rattle.drive_scene.proofs.MovesGoOn.{payload_psn, other_write, one_sector, strays_pushed, strays_tried, ends_cut}
+use Rattle.drive_scene.proofs.MovesGoOn.{payload_psn, other_write, one_sector, strays_pushed, strays_tried, going_uncommitted}
+use Rattle.drive_scene.proofs.Uncommitted.{LeavesMap, ends_cut, leaves_map, uncommitted}
 
--- operations leave what is meant on each other sector than one, and no fewer strays
+-- operations are at one sector: they leave what is meant on each other one, and no fewer strays
 pub record AreAt (p : Psn) (before ops : List Op) : Type 0 where
+  pub about : (q : Psn) → q ≢ p → list_any (is_at_sector q) ops ≡ false
   pub others : (q : Psn) → q ≢ p → meant q (before ++ ops) ≡ meant q before
   pub no_fewer : strays before ≤ strays (before ++ ops)
 
--- so do those of a move that goes on, but for its spare
-work_at : (s : Scene) (job : Job) (step : JobStep) (ops : List Op) → IsMoveWork s (record job { step = step }) step ops → is_cut_off ops ≡ false
-    → result_of (job_after s (record job { step = step }) ops) ≡ None → AreAt (spare_of job) s.ops ops
-work_at s job Writing ops (inl (inl e)) on goes =
+-- so are those of a move before its commit: at its spare
+pub work_at : (s : Scene) (job : Job) (step : JobStep) (ops : List Op) → IsMoveWork s (record job { step = step }) step ops → is_cut_off ops ≡ false
+    → step ≢ Committing → AreAt (spare_of job) s.ops ops
+work_at s job Writing ops (inl (inl e)) on other_step =
     let own : (payload_on (spare_of job) job.b job.value).psn ≡ spare_of job = payload_psn (spare_of job) job.b job.value in
     subst (λ (os : List Op). AreAt (spare_of job) s.ops os) (sym e) (record {
+      about = λ q other. neither _ _ (ne_eqb (payload_on (spare_of job) job.b job.value).psn.0 q.0
+          (λ same. other (sym (one_sector _ _ (sym (ap (λ (x : Psn). x.0) own) ∙ same))))) refl;
       others = λ q other. other_write q s.ops (payload_on (spare_of job) job.b job.value) (λ same. other (sym (one_sector _ _ (sym (ap (λ (x : Psn). x.0) own) ∙ same))));
       no_fewer = strays_pushed s.ops (Wrote (payload_on (spare_of job) job.b job.value));
     })
-work_at s job Writing ops (inl (inr torn)) on goes =
+work_at s job Writing ops (inl (inr torn)) on other_step =
     absurd (true≢false (sym (ap is_cut_off torn.4 ∙ ends_cut (map Wrote (take torn.0 (payload_on (spare_of job) job.b job.value ∷ []))) torn.1 torn.2) ∙ on))
-work_at s job Writing ops (inr e) on goes =
+work_at s job Writing ops (inr e) on other_step =
     subst (λ (os : List Op). AreAt (spare_of job) s.ops os) (sym e) (record {
+      about = λ q other. neither _ _ (ne_eqb (spare_of job).0 q.0 (λ same. other (sym (one_sector _ _ same)))) refl;
       others = λ q other. fold-append (meant_after q) None s.ops (WriteFailed (spare_of job) ∷ []);
       no_fewer = strays_pushed s.ops (WriteFailed (spare_of job));
     })
-work_at s job Checking ops check on goes =
+work_at s job Checking ops check on other_step =
     subst (λ (os : List Op). AreAt (spare_of job) s.ops os) (sym check.1) (record {
+      about = λ q other. let off = ne_eqb (spare_of job).0 q.0 (λ same. other (sym (one_sector _ _ same))) in neither _ _ off (neither _ _ off refl);
       others = λ q other. fold-append (meant_after q) None s.ops (try_of (length s.ops) (spare_of job) check_stage check.0);
       no_fewer = strays_tried s.ops (spare_of job) check.0;
     })
-work_at s job Committing ops work on goes = absurd (cc)
-work_at s job (Over end) ops work on goes = absurd work
+work_at s job Committing ops work on other_step = absurd (other_step refl)
+work_at s job (Over end) ops work on other_step = absurd work
 
 -- spares of moves that are apart are different ones
 other_spare : (f g : Flight) → f.job.chain ≢ [] → g.job.chain ≢ [] → AreApart f g → spare_of g.job ≢ spare_of f.job
@@ -66,18 +76,21 @@ other_spare f g some others apart same =
 
 pub moves_leave_others : FreeSparesAreNoPlaces → MovesLeaveOthers
 moves_leave_others no_places s f g ops may is apart =
-    let at : AreAt (spare_of f.job) s.ops ops = work_at s f.job f.job.step ops may.work may.powered may.goes_on in
+    let u : Scene = scene_after s (move_turn f ops) in
+    let other_step : f.job.step ≢ Committing = going_uncommitted s f.job.b f.job.value f.job.why f.job.owner f.job.chain f.job.step ops may.goes_on in
+    let at : AreAt (spare_of f.job) s.ops ops = work_at s f.job f.job.step ops may.work may.powered other_step in
+    let leaves : LeavesMap s (move_turn f ops) = leaves_map s f.j [] ops (uncommitted s f.j f.job ops may.in_flight other_step) in
     let free : IsFreeSpare s.map (spare_of f.job) = end_among (IsFreeSpare s.map) (sector 0) f.job.chain may.flight.begun may.flight.spares in
     record {
       size = refl;
-      opened = omega arith;
+      opened = leaves.opened;
       no_fewer = at.no_fewer;
       block = refl;
-      place = refl;
+      place = ap (λ (m : DefectMap). place_of m g.job.b) leaves.map;
       at_place = at.others (place_of s.map g.job.b) (no_places s.map may.valid (spare_of f.job) free g.job.b (within_map s g.job.b may.size is.below));
       at_spare = at.others (spare_of g.job) (other_spare f g may.flight.begun is.begun apart);
-      spares = is.spares;
-      owner = owner_stays s (scene_after s (move_turn f ops)) g.job.why g.job.owner refl refl refl;
+      spares = subst (λ (m : DefectMap). All (λ pair. IsFreeSpare m pair.new) g.job.chain) (sym leaves.map) is.spares;
+      owner = owner_stays s u g.job.why g.job.owner (leaves.windows f.j refl) refl refl;
     }
 
 -- a sector that is neither where a chain begins nor new of its pairs is in none of them

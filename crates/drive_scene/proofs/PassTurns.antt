@@ -1,28 +1,23 @@
 -- Half a turn in which a sync passes over blocks, and may harden the one behind them.
-use Rattle.std.proofs.Common.{◌≡◌, ℕ, ◌≤◌, true, List, [], ◌∷◌, Some, refl, sym, ap, ◌∙◌, subst, arith, append-nil, eqb}
+use Rattle.std.proofs.Common.{◌≡◌, ℕ, true, [], ◌∷◌, Some, refl, sym, ap, ◌∙◌, subst, arith, append-nil, eqb}
 use Rattle.std.specs.List.{list_any}
 use Rattle.std.proofs.lemmas.Bool.{or_left, eq-eqb, lt-ltb, le-leb, true≢false}
 use Rattle.std.proofs.lemmas.List.Elements.{All-nil, All-from_recursion}
-use Rattle.disk_base.specs.declared.address.Lba.{Lba}
 use Rattle.disk_base.specs.declared.block.Value.TheVariants.{Data}
 use Rattle.platter_model.specs.declared.op.Op.TheVariants.{Wrote}
 use Rattle.sector_store.specs.State.{placed}
-use Rattle.cdb_reader.specs.declared.plan.Plan.{Plan}
-use Rattle.cdb_reader.specs.declared.plan.Deed.TheVariants as deed
-use Rattle.cdb_reader.specs.Plan.{next}
 use Rattle.block_machine.specs.declared.entry.Entry.TheVariants.{Harden, Passed}
 use Rattle.block_machine.specs.declared.entry.Who.TheVariants.{Command}
 use Rattle.block_machine.specs.declared.turn.Label.TheVariants.{Work}
-use Rattle.block_machine.specs.Blocks.{is_dirty, none_dirty}
+use Rattle.block_machine.specs.Blocks.{is_dirty}
 use Rattle.block_machine.specs.State.{State, owed_by}
-use Rattle.block_machine.specs.Steps.{begun, entry_after}
+use Rattle.block_machine.specs.Steps.{begun}
 use Rattle.block_machine.proofs.Booleans.{and_both}
-use Rattle.drive_scene.specs.Scene.{Scene, capacity}
+use Rattle.drive_scene.specs.Scene.{capacity}
 use Rattle.drive_scene.specs.Holds.{holder_besides}
 use Rattle.drive_scene.specs.GoodTurn.{IsStood, WritesBlockData, is_harden_of}
-use Rattle.drive_scene.specs.Half.{Half}
 use Rattle.drive_scene.proofs.Doing.{quiet-begun, owed-begun, quiet-trans, hardened_owes, hardened_quiet, hardened_lawful, passed_owes, passed_quiet, passed_lawful}
-use Rattle.drive_scene.specs.Kinds.{IsHarden, passed_state}
+use Rattle.drive_scene.specs.Kinds.{passed_state}
 use Rattle.drive_scene.specs.Laws.{PassesToHardenAreHalves, PassesAreHalves}
 use Rattle.drive_scene.proofs.HardenTurns.{dirty-newest, written_about, stood_hardened, undirtied_hardened, writes_newest}
 use Rattle.drive_scene.proofs.Tables.{within_map}

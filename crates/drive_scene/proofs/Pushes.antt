@@ -1,12 +1,15 @@
 -- A run with one turn more.
-use Rattle.std.proofs.Common.{◌≡◌, ℕ, ◌+◌, ◌≤◌, List, [], ◌∷◌, ◌++◌, length, refl, sym, ap, ◌∙◌, arith, length-append}
+use Rattle.std.proofs.Common.{◌≡◌, ℕ, ◌+◌, ◌≤◌, List, [], ◌∷◌, ◌++◌, length, Option, refl, sym, ap, ◌∙◌, arith, length-append}
 use Rattle.std.specs.Prelude.{fold, map, slice_range}
 use Rattle.std.proofs.lemmas.Grind.{common_steps}
 use Rattle.platter_model.specs.declared.op.Op.{Op}
 use Rattle.block_machine.specs.declared.turn.Turn.{Turn}
-use Rattle.drive_scene.specs.Scene.{Scene, Beat, scene_after, beat}
+use Rattle.drive_scene.specs.Scene.{Scene, Beat, beat}
+use Rattle.drive_scene.specs.After.{map_committed, scene_after}
 use Rattle.drive_scene.specs.Run.{beat_of, FollowFrom}
 use Rattle.drive_scene.specs.Laws.{MapsStay}
+use Rattle.drive_scene.proofs.Uncommitted.{stays_flightless, flightless_uncommitted}
+use Rattle.move_jobs.specs.Job.{Job}
 
 -- the turns end no earlier than they begin
 follow-up : (from to : ℕ) (turns : List Turn) → FollowFrom from turns to → from ≤ to
@@ -57,5 +60,11 @@ ops_grow s [] = omega arith
 ops_grow s (t ∷ turns) = let rest = ops_grow (scene_after s t) turns in omega (arith, rest, length-append s.ops t.ops)
 
 pub map_stays : MapsStay
-map_stays s [] = (refl, refl)
-map_stays s (t ∷ turns) = map_stays (scene_after s t) turns
+map_stays s [] = ((λ none. (refl, none)), refl)
+map_stays s (t ∷ turns) =
+    let rest = map_stays (scene_after s t) turns in (
+      (λ none.
+          let later = rest.0 (stays_flightless s t none) in
+          (later.0 ∙ ap (λ (o : Option Job). map_committed o s.map) (flightless_uncommitted s t.label t.ops none), later.1)),
+      rest.1,
+    )

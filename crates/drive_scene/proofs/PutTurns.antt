@@ -37,10 +37,10 @@ use Rattle.drive_scene.specs.Scene.{Scene, capacity}
 use Rattle.drive_scene.specs.Holds.{holder_besides}
 use Rattle.drive_scene.specs.GoodTurn.{IsStood, WritesBlockData, is_harden_of}
 use Rattle.drive_scene.proofs.Tables.{put_at-own, put_at-other, within_map}
-use Rattle.drive_scene.specs.Half.{Half, IsQuiet}
+use Rattle.drive_scene.specs.Half.{IsQuiet}
 use Rattle.drive_scene.proofs.Doing.{quiet-begun, owed-begun, quiet-trans, quiet_then, owed_then, still_owed, hardened_owes, hardened_quiet, hardened_lawful}
 use Rattle.drive_scene.proofs.HardenTurns.{dirty-newest, hardened-newest, unstrayed, stood_written, not_held}
-use Rattle.drive_scene.specs.Kinds.{put_state, through_state, IsPut, IsPutThrough}
+use Rattle.drive_scene.specs.Kinds.{put_state}
 use Rattle.drive_scene.specs.Laws.{PutsAreHalves, PutsThroughAreHalves}
 
 -- a value that is put is the newest

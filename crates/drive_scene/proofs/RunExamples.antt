@@ -1,6 +1,5 @@
 -- Operations of turns follow each other from number 0 on, the first behind the factory's.
-use Rattle.std.proofs.Common.{◌≡◌, ℕ, [], ◌∷◌, refl, arith}
-use Rattle.std.specs.Prelude.{◌≤◌}
+use Rattle.std.proofs.Common.{ℕ, [], ◌∷◌, refl, arith}
 use Rattle.block_machine.specs.declared.turn.Label.TheVariants.{Destage}
 use Rattle.block_machine.specs.declared.turn.Turn.{Turn}
 use Rattle.drive_scene.specs.Run.{FollowFrom}

@@ -17,7 +17,7 @@ use Rattle.platter_model.specs.State.{State, tried}
 use Rattle.platter_model.specs.TrueLog.{attempt_of, strays, strays_from}
 use Rattle.read_recovery.specs.Stages.{Progress, stages_of, next_stage, answered}
 use Rattle.sector_store.specs.Shapes.{try_of}
-use Rattle.drive_scene.specs.Scene.{last_found, stage_that_found}
+use Rattle.drive_scene.specs.After.{last_found, stage_that_found}
 use Rattle.drive_scene.specs.Evidence.{FailedBelow, FoundByStages, FoundNowhere}
 
 -- operations of a try, behind those before

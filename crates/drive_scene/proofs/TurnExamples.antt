@@ -25,7 +25,8 @@ use Rattle.block_machine.specs.declared.turn.Label.TheVariants as label
 use Rattle.block_machine.specs.State.{State}
 use Rattle.block_machine.specs.declared.entry.Entry.TheVariants.{Get, Put, Harden, GiveUp, Ended, Started, Passed, Asked, Aborted}
 use Rattle.block_machine.specs.declared.entry.Who.TheVariants.{Command, Drive}
-use Rattle.drive_scene.specs.Scene.{Scene, Beat, beat, window_after}
+use Rattle.drive_scene.specs.Scene.{Scene, Beat, beat}
+use Rattle.drive_scene.specs.After.{window_after}
 use Rattle.drive_scene.specs.Evidence.{lba, FailedBelow, FailedToWrite, Shows}
 use Rattle.drive_scene.specs.GoodTurn.{is_entry_of, window_at_most, are_in_order, is_one_step, IsWorldStep, IsStep, AreOwn, AreTriesShown, WritesBlockData}
 use Rattle.drive_scene.specs.Able.{first_reason}
@@ -146,16 +147,23 @@ cut_from_outside off entries ops never = never
 power_from_outside : (off : Bool) (entries : List Entry) (ops : List Op) → IsWorldStep off world.Power entries ops → ⊥
 power_from_outside off entries ops never = never
 
--- no turn is one of a move or of the scan
-turn_of_a_move : (s : Scene) (j : ℕ) (entries : List Entry) (ops : List Op) → IsStep s (label.Job j) entries ops → ⊥
-turn_of_a_move s j entries ops never = never
+-- no cut is armed
+arm_from_outside : (off : Bool) (k : ℕ) (tear : Tear) (entries : List Entry) (ops : List Op) → IsWorldStep off (world.Arm k tear) entries ops → ⊥
+arm_from_outside off k tear entries ops never = never
+
+-- no turn of a move has a power cut, and no turn is one of the scan
+cut_off_move : (s : Scene) (j : ℕ) (entries : List Entry) (ops : List Op) → IsStep s (label.Job j) entries (op.Cut ∷ ops) → ⊥
+cut_off_move s j entries ops (turn, on) = true≢false on
+
+turn_of_the_scan : (s : Scene) (entries : List Entry) (ops : List Op) → IsStep s label.Scan entries ops → ⊥
+turn_of_the_scan s entries ops never = never
 
 entries_of_the_scan : (entries : List Entry) → AreOwn label.Scan entries → ⊥
 entries_of_the_scan entries never = never
 
--- nothing shows a block that is given up
-given_up : (s : Scene) (t : Beat) (h : State) → Shows s t h (GiveUp (lba 7)) → ⊥
-given_up s t h never = never
+-- no turn of work shows that a block is given up
+given_up : (s : Scene) (c : ℕ) (entries : List Entry) (ops : List Op) (h : State) → Shows s (beat (label.Work c) entries ops) h (GiveUp (lba 7)) → ⊥
+given_up s c entries ops h never = never
 
 -- stages are tried in their order: the plain read comes first
 plain_read_first : FailedBelow (try_of 7 p40 plain None) p40 3 1

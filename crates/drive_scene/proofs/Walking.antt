@@ -11,9 +11,10 @@ use Rattle.task_set.specs.Members.{member_of, IsByAge}
 use Rattle.block_machine.specs.Attentions.{initiators}
 use Rattle.drive_scene.specs.declared.answer.Waiting.{Waiting}
 use Rattle.drive_scene.specs.declared.answer.Pick.{Pick}
-use Rattle.drive_scene.specs.declared.answer.Pick.TheVariants.{Arrive, Work, Destage}
+use Rattle.drive_scene.specs.declared.answer.Pick.TheVariants.{Arrive, Work, Job, Destage}
 use Rattle.drive_scene.specs.declared.answer.TurnAnswer.{TurnAnswer}
 use Rattle.drive_scene.specs.declared.answer.TurnAnswer.TheVariants.{Idle}
+use Rattle.move_table.specs.declared.flight.Flight.{Flight}
 use Rattle.drive_scene.specs.Scene.{Scene}
 use Rattle.drive_scene.specs.Holds.{destaged}
 use Rattle.drive_scene.specs.Able.{arrives, is_able, able, able_destage, picked, nothing_waiting, work_refused, refusal_of_work}
@@ -115,21 +116,39 @@ map-twice : (ms : List Member) → map Work (map (λ (m : Member). m.task.c) ms)
 map-twice [] = refl
 map-twice (m ∷ ms) = ap (λ (rest : List Pick). Work m.task.c ∷ rest) (map-twice ms)
 
--- of the lists of what may come three can have members
-pub able-is : (s : Scene) (w : Waiting)
+-- of the lists of what may come three can have members where no move is in flight
+pub able-is : (s : Scene) (w : Waiting) → s.back.flights ≡ []
     → able s w ≡ map Arrive (filter (arrives w) initiators) ++ (map (λ (m : Member). Work m.task.c) (filter (is_able s) s.hist.set) ++ able_destage s w)
-able-is s w = refl
+able-is s w none =
+    let commands : List Pick = map (λ (m : Member). Work m.task.c) (filter (is_able s) s.hist.set) in
+    ap (λ (fs : List Flight). map Arrive (filter (arrives w) initiators) ++ (commands ++ (map (λ (f : Flight). Job f.j) fs ++ able_destage s w))) none
 
 -- and two where no destage is asked for
-pub able-quiet : (s : Scene) (w : Waiting) → w.destages ≡ false
+pub able-quiet : (s : Scene) (w : Waiting) → s.back.flights ≡ [] → w.destages ≡ false
     → able s w ≡ map Arrive (filter (arrives w) initiators) ++ map (λ (m : Member). Work m.task.c) (filter (is_able s) s.hist.set)
-able-quiet s w quiet =
+able-quiet s w none quiet =
     let commands : List Pick = map (λ (m : Member). Work m.task.c) (filter (is_able s) s.hist.set) in
-    ap (λ (b : Bool). map Arrive (filter (arrives w) initiators) ++ (commands ++ cond (b && is_some (destaged s)) (Destage ∷ []) [])) quiet
+    able-is s w none
+    ∙ ap (λ (b : Bool). map Arrive (filter (arrives w) initiators) ++ (commands ++ cond (b && is_some (destaged s)) (Destage ∷ []) [])) quiet
     ∙ ap (λ (zs : List Pick). map Arrive (filter (arrives w) initiators) ++ zs) (append-nil commands)
 
--- the turn of a number among them
+-- a move in flight may come
+pub able-moving : (s : Scene) (w : Waiting) → 0 < length s.back.flights → 0 < length (able s w)
+able-moving s w some =
+    let moves : List Pick = map (λ (f : Flight). Job f.j) s.back.flights in
+    let commands : List Pick = map (λ (m : Member). Work m.task.c) (filter (is_able s) s.hist.set) in
+    omega (
+      arith,
+      some,
+      length-map s.back.flights (λ (f : Flight). Job f.j),
+      length-append (map Arrive (filter (arrives w) initiators)) (commands ++ (moves ++ able_destage s w)),
+      length-append commands (moves ++ able_destage s w),
+      length-append moves (able_destage s w),
+    )
+
+-- the turn of a number among them, while no move is in flight
 pub record Among (s : Scene) (w : Waiting) (froms cs : List ℕ) : Type 0 where
+  pub flightless : s.back.flights ≡ []
   pub arrivals : froms ≡ filter (arrives w) initiators
   pub commands : cs ≡ map (λ (m : Member). m.task.c) (filter (is_able s) s.hist.set)
 
@@ -146,9 +165,10 @@ module _ (s : Scene) (w : Waiting) (froms cs : List ℕ) (among : Among s w from
   are : able s w ≡ turns froms cs (able_destage s w)
   unfolding turns
   are =
-      ap (λ (zs : List Pick). map Arrive (filter (arrives w) initiators) ++ (zs ++ able_destage s w)) (sym (map-twice (filter (is_able s) s.hist.set)))
+      able-is s w among.flightless
+      ∙ (ap (λ (zs : List Pick). map Arrive (filter (arrives w) initiators) ++ (zs ++ able_destage s w)) (sym (map-twice (filter (is_able s) s.hist.set)))
       ∙ (ap (λ (zs : List ℕ). map Arrive (filter (arrives w) initiators) ++ (map Work zs ++ able_destage s w)) (sym among.commands)
-      ∙ ap (λ (zs : List ℕ). map Arrive zs ++ (map Work cs ++ able_destage s w)) (sym among.arrivals))
+      ∙ ap (λ (zs : List ℕ). map Arrive zs ++ (map Work cs ++ able_destage s w)) (sym among.arrivals)))
 
   long : length (turns froms cs (able_destage s w)) ≡ length froms + length cs + length (able_destage s w)
   unfolding turns
@@ -260,10 +280,10 @@ behind-picked s w x froms cs ds a b l n counts n_is same past inside = by (ltb (
         destage-picked s w x froms cs a b l n (length ds) counts n_is (ap length same) past inside (ltb-false (x % (a + b + l) - n) (length ds) high)
 
 -- a command picked where nothing waits outside
-pub any-picked : (s : Scene) (x n : ℕ) (cs : List ℕ) → cs ≡ map (λ (m : Member). m.task.c) (filter (is_able s) s.hist.set) → n ≡ length cs → 0 < n → x % n < n
+pub any-picked : (s : Scene) (x n : ℕ) (cs : List ℕ) → s.back.flights ≡ [] → cs ≡ map (λ (m : Member). m.task.c) (filter (is_able s) s.hist.set) → n ≡ length cs → 0 < n → x % n < n
     → Some (Work (get_or cs (x % n) 0)) ≡ picked s nothing_waiting x
-any-picked s x n cs is n_is some inside =
-    let all : able s nothing_waiting ≡ map Work cs = able-quiet s nothing_waiting refl ∙ sym (ap (map Work) is ∙ map-twice (filter (is_able s) s.hist.set)) in
+any-picked s x n cs none is n_is some inside =
+    let all : able s nothing_waiting ≡ map Work cs = able-quiet s nothing_waiting none refl ∙ sym (ap (map Work) is ∙ map-twice (filter (is_able s) s.hist.set)) in
     let long : length (able s nothing_waiting) ≡ n = ap length all ∙ (length-map cs Work ∙ sym n_is) in
     let there : slice_get (map Work cs) (x % n) ≡ Some (get_or (map Work cs) (x % n) (Work 0)) =
     slice_get-get_or (map Work cs) (x % n) (Work 0) (omega (arith, length-map cs Work)) in

@@ -6,7 +6,8 @@ use Rattle.platter_model.specs.declared.op.Op.{Op}
 use Rattle.platter_model.specs.declared.op.Op.TheVariants.{Fetched, Tried}
 use Rattle.block_machine.specs.declared.entry.Entry.{Entry}
 use Rattle.block_machine.specs.declared.turn.Label.TheVariants.{Work}
-use Rattle.drive_scene.specs.Scene.{Scene, scene_after, opens_window, window_after, beat}
+use Rattle.drive_scene.specs.Scene.{Scene, beat}
+use Rattle.drive_scene.specs.After.{scene_after, opens_window, window_after}
 use Rattle.drive_scene.specs.GoodTurn.{is_one_step}
 use Rattle.drive_scene.proofs.Tables.{put_at-own, put_at-other}
 

@@ -14,6 +14,7 @@ use Rattle.drive_scene.specs.declared.answer.Waiting.{Waiting}
 use Rattle.drive_scene.specs.declared.answer.Pick.{Pick}
 use Rattle.drive_scene.specs.declared.answer.Pick.TheVariants as pick
 use Rattle.drive_scene.specs.Scene.{Scene}
+use Rattle.move_table.specs.Table.{job_in}
 use Rattle.drive_scene.specs.Holds.{holder_besides, needed_block, destaged}
 use Rattle.drive_scene.specs.Run.{Run, scene_of}
 use Rattle.drive_scene.specs.Evidence.{lba}
@@ -54,10 +55,11 @@ able_arrivals w = map pick.Arrive (filter (arrives w) initiators)
 abbrev pub able_commands : Scene → List Pick
 able_commands s = map (λ m. pick.Work m.task.c) (filter (is_able s) s.hist.set)
 
--- moves, by number, and the scan: none of these comes so far
+-- the moves in flight, by number
 abbrev pub able_jobs : Scene → List Pick
-able_jobs s = []
+able_jobs s = map (λ f. pick.Job f.j) s.back.flights
 
+-- no scan comes so far
 abbrev pub able_scan : Scene → Waiting → List Pick
 able_scan s w = []
 
@@ -89,6 +91,7 @@ pick_of r w x = if is_off r.ops || is_spent r then None else picked (scene_of r)
 abbrev pub refusal_on : Scene → ℕ → Event → Option TurnAnswer
 refusal_on s coming (event.Work c) = refusal_of_work s coming c
 refusal_on s coming (event.Any x) = option_map_or (λ p. None) (picked s nothing_waiting x) (Some (answer.Idle coming))
+refusal_on s coming (event.Job j) = if is_some (job_in s.back.flights j) then None else Some (answer.Idle coming)
 refusal_on s coming event.Destage = if is_some (destaged s) then None else Some (answer.Idle coming)
 refusal_on s coming other = None
 

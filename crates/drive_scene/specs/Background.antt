@@ -1,21 +1,15 @@
 -- What the drive has in hand beside its commands: moves of blocks to spares, the scan, and marks on blocks.
-use Rattle.std.specs.Prelude.{ℕ, ◌==◌, ◌&&◌, not, Bool, true, false, if◌then◌else◌, List, [], filter, Option, Some, None}
+use Rattle.std.specs.Prelude.{ℕ, ◌==◌, ◌&&◌, not, Bool, true, false, if◌then◌else◌, List, [], Option, None}
 use Rattle.disk_base.specs.At.{put_at}
 use Rattle.disk_base.specs.declared.address.Lba.{Lba}
-use Rattle.disk_base.specs.declared.stage.MoveWhy.{MoveWhy}
-use Rattle.disk_base.specs.declared.stage.MoveWhy.TheVariants.{Write}
 use Rattle.read_recovery.specs.Stages.{Progress}
 use Rattle.platter_model.specs.declared.op.Op.{Op}
 use Rattle.platter_model.specs.declared.op.Op.TheVariants.{Wrote}
 use Rattle.geometry_map.specs.DefectMap.{DefectMap, place_of}
-use Rattle.move_jobs.specs.Job.{Job}
+use Rattle.move_table.specs.declared.flight.Flight.{Flight}
+use Rattle.move_table.specs.Table.{without_new}
 use Rattle.block_machine.specs.declared.entry.Entry.{Entry}
 use Rattle.block_machine.specs.declared.entry.Entry.TheVariants.{Put, GiveUp, Logged, Aborted, Mode, Cut, PoweredOn}
-
--- a move in flight, by its number
-pub record Flight : Type 0 where
-  pub j : ℕ
-  pub job : Job
 
 -- how many moves were opened, and those of them that are in flight, by number; of each command, how many of its moves were committed,
 -- and the block for which it found no spare; the scan's step in hand; of each block, whether its destage failed since its last put,
@@ -43,18 +37,9 @@ background_at_start = record {
   given_up = λ b. false;
 }
 
--- a move carries new data of a block
-abbrev pub is_of_write : MoveWhy → Bool
-is_of_write Write = true
-is_of_write other = false
-
-abbrev pub is_owned_by : ℕ → Option ℕ → Bool
-is_owned_by c (Some d) = d == c
-is_owned_by c None = false
-
 -- the moves in flight after an entry: new data of a command that is aborted are dropped, and no move outlives the power
 abbrev pub flights_by : List Flight → Entry → List Flight
-flights_by flights (Aborted c) = filter (λ f. not (is_of_write f.job.why && is_owned_by c f.job.owner)) flights
+flights_by flights (Aborted c) = without_new c flights
 flights_by flights Cut = []
 flights_by flights other = flights
 

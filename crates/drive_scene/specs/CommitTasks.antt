@@ -13,7 +13,7 @@ use Rattle.block_machine.specs.declared.turn.Label.TheVariants.{Job}
 use Rattle.block_machine.specs.Deeds.{is_crowded}
 use Rattle.block_machine.specs.State.{State, owed_by}
 use Rattle.block_machine.specs.Turns.{entries_lawful}
-use Rattle.drive_scene.specs.Background.{Flight}
+use Rattle.move_table.specs.declared.flight.Flight.{Flight}
 use Rattle.drive_scene.specs.Scene.{Scene, capacity}
 use Rattle.drive_scene.specs.Carried.{commit_entries, cut_entries}
 use Rattle.drive_scene.specs.MoveTurn.{present_owner, if_scans, logged_moved}

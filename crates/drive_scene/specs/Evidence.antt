@@ -22,12 +22,18 @@ use Rattle.cdb_reader.specs.declared.plan.Reading as reading
 use Rattle.cdb_reader.specs.declared.plan.Plan.{Plan}
 use Rattle.cdb_reader.specs.declared.plan.Plan.TheVariants.{Reading, Writing, Syncing, Moving}
 use Rattle.cdb_reader.specs.Replies.{medium_error}
+use Rattle.move_jobs.specs.Job as move_job
+use Rattle.move_jobs.specs.declared.step.JobStep.TheVariants.{Committing}
 use Rattle.command_engine.specs.Ending.{report_of}
 use Rattle.block_machine.specs.declared.entry.Entry.{Entry}
 use Rattle.block_machine.specs.declared.entry.Entry.TheVariants.{Get, Put, Harden, GiveUp, Page, Ended, Scanned, Logged, Cut, PoweredOn, Blank, Fresh}
+use Rattle.block_machine.specs.declared.turn.Label.{Label}
+use Rattle.block_machine.specs.declared.turn.Label.TheVariants.{Job}
 use Rattle.block_machine.specs.Blocks.{is_dirty, newest}
 use Rattle.block_machine.specs.State.{State, owed_by}
-use Rattle.drive_scene.specs.Scene.{Scene, Beat, windows_with, scene_after}
+use Rattle.drive_scene.specs.Scene.{Scene, Beat}
+use Rattle.move_table.specs.Table.{job_in}
+use Rattle.drive_scene.specs.After.{windows_with, scene_after}
 
 -- the address of a block
 abbrev pub lba : ℕ → Lba
@@ -72,6 +78,26 @@ abbrev pub may_use_cache : Settings → Option Plan → Bool
 may_use_cache settings (Some (Reading r)) = not r.through && not settings.rcd
 may_use_cache settings plan = false
 
+-- a command tried a block by all of its stages, and each found nothing
+abbrev pub IsGivenUpBy : Scene → Lba → ℕ → Type 0
+IsGivenUpBy s b c = FailedBelow (s.windows c) (place_of s.map b) (s.settings c).retry (length (stages_of (s.settings c).retry))
+
+-- a block is given up as a move is committed whose owner gave it up
+abbrev pub IsGiveUpShown : Scene → Label → Lba → Type 0
+IsGiveUpShown s (Job j) b = (job : move_job.Job) × (c : ℕ) × (job_in s.back.flights j ≡ Some job) × (job.b ≡ b) × (job.owner ≡ Some c) × IsGivenUpBy s b c
+IsGiveUpShown s label b = ⊥
+
+-- a block is hardened by a move that needs its commit and carries the newest value to its spare; else by a write of that to its place
+abbrev pub IsHardenShown : Scene → Beat → Label → State → Lba → Type 0
+IsHardenShown s t (Job j) h b =
+    (job : move_job.Job) × (job_in s.back.flights j ≡ Some job) × (job.step ≡ Committing) × (job.b ≡ b) × (newest (h.blocks b.0) ≡ Some job.value)
+IsHardenShown s t label h b = (v : Value) → newest (h.blocks b.0) ≡ Some v → WritesBlock s.map b v t.ops
+
+-- what a move finds is logged by the rule of its turn
+abbrev pub IsLogShown : Label → Type 0
+IsLogShown (Job j) = Unit {0}
+IsLogShown label = ⊥
+
 -- a command gets a value of a block that isn't dirty
 abbrev pub IsGotShown : Scene → List Op → Settings → State → ℕ → Lba → Value → Type 0
 IsGotShown s window settings h c b (Data bytes) =
@@ -114,13 +140,13 @@ page_of m asks planned = planned
 -- what a turn's operations show of one of its entries, from the state before that entry
 abbrev pub Shows : Scene → Beat → State → Entry → Type 0
 Shows s t h (Get c b v) = IsGot s (window_now s t c) (settings_now s t c) h c b v
-Shows s t h (Harden who b) = (v : Value) → newest (h.blocks b.0) ≡ Some v → WritesBlock s.map b v t.ops
+Shows s t h (GiveUp b) = IsGiveUpShown s t.label b
+Shows s t h (Harden who b) = IsHardenShown s t t.label h b
 Shows s t h (Page c bytes) = bytes ≡ page_of s.map (h.duties c).asks bytes
 Shows s t h (Ended c reply) = IsEndShown s t c (owed_by h c) reply
--- no move, scan, cut or format comes yet
-Shows s t h (GiveUp b) = ⊥
+Shows s t h (Logged finding) = IsLogShown t.label
+-- no scan, cut or format comes yet
 Shows s t h (Scanned b what) = ⊥
-Shows s t h (Logged finding) = ⊥
 Shows s t h Cut = ⊥
 Shows s t h (PoweredOn outcome) = ⊥
 Shows s t h (Blank c) = ⊥

@@ -1,12 +1,11 @@
 -- What is so of a move in flight between its turns, and which turns of others leave it so.
-use Rattle.std.specs.Prelude.{◌≡◌, ◌≢◌, ℕ, ◌-◌, ◌<◌, ◌≤◌, false, List, [], length, All, Option, Some, None}
+use Rattle.std.specs.Prelude.{◌≡◌, ◌≢◌, ℕ, ◌-◌, ◌<◌, ◌≤◌, false, List, [], All, Option, Some, None}
 use Rattle.disk_base.specs.declared.address.Lba.{Lba}
 use Rattle.disk_base.specs.declared.address.Psn.{Psn}
 use Rattle.disk_base.specs.declared.block.Value.{Value}
 use Rattle.disk_base.specs.declared.block.Value.TheVariants.{Data}
 use Rattle.disk_base.specs.declared.stage.MoveWhy.{MoveWhy}
 use Rattle.disk_base.specs.declared.stage.MoveWhy.TheVariants as why
-use Rattle.read_recovery.specs.Stages.{stages_of}
 use Rattle.platter_model.specs.declared.op.Op.{Op}
 use Rattle.platter_model.specs.Sector.{meant}
 use Rattle.platter_model.specs.TrueLog.{strays}
@@ -22,17 +21,15 @@ use Rattle.cdb_reader.specs.declared.plan.Plan.TheVariants as plan
 use Rattle.cdb_reader.specs.Plan.{block_of}
 use Rattle.block_machine.specs.State.{owed_by}
 use Rattle.block_machine.specs.declared.turn.Label.TheVariants.{Job}
-use Rattle.drive_scene.specs.Background.{Flight}
-use Rattle.drive_scene.specs.Scene.{Scene, Beat, beat, capacity, flight, scene_after}
-use Rattle.drive_scene.specs.Evidence.{FailedBelow}
+use Rattle.move_table.specs.declared.flight.Flight.{Flight}
+use Rattle.drive_scene.specs.Scene.{Scene, Beat, beat, capacity}
+use Rattle.drive_scene.specs.After.{scene_after}
+use Rattle.move_table.specs.Table.{flight, job_in, with_job}
+use Rattle.drive_scene.specs.Evidence.{IsGivenUpBy}
 use Rattle.drive_scene.specs.Still.{IsStanding}
 use Rattle.drive_scene.specs.Carried.{IsValueOf, IsAsStored}
-use Rattle.drive_scene.specs.MoveTurn.{IsMoveWork, IsMoveTurn, job_in, job_after, with_job, back_after_job, is_cut_off, present_owner}
+use Rattle.drive_scene.specs.MoveTurn.{IsMoveWork, IsMoveTurn, job_after, back_after_job, is_cut_off, present_owner}
 use Rattle.drive_scene.specs.CommitTurn.{IsReadyToCommit}
-
--- a command tried a block by all of its stages, and each found nothing
-abbrev pub IsGivenUpBy : Scene → Lba → ℕ → Type 0
-IsGivenUpBy s b c = FailedBelow (s.windows c) (place_of s.map b) (s.settings c).retry (length (stages_of (s.settings c).retry))
 
 -- a command that is in is to write these data to a block next
 pub record IsWrittenBy (s : Scene) (b : Lba) (v : Value) (c : ℕ) : Type 0 where
@@ -51,10 +48,11 @@ IsOwners s why.Write b v None = ⊥
 IsOwners s why.Write b v (Some c) = IsWrittenBy s b v c
 IsOwners s other b v owner = Unit {0}
 
--- a move in flight: its chain goes from the block's place to spares that are in no pair, the last of which carries its value once it was
--- written; and its value is what the history and the medium have of the block
+-- a move in flight isn't over; its chain goes from the block's place to spares that are in no pair, the last of which carries its value
+-- once it was written; and its value is what the history has of the block and, while no operation is a stray, the medium
 pub record IsFlight (s : Scene) (f : Flight) : Type 0 where
   pub numbered : f.j ≤ s.back.opened
+  pub underway : result_of f.job ≡ None
   pub below : f.job.b.0 < capacity s
   pub chain : IsChain (place_of s.map f.job.b) f.job.chain
   pub begun : f.job.chain ≢ []

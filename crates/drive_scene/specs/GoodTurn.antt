@@ -32,7 +32,10 @@ use Rattle.block_machine.specs.declared.turn.Label.TheVariants as label
 use Rattle.block_machine.specs.Blocks.{Blocks, allowed, same_value, newest}
 use Rattle.block_machine.specs.Steps.{begun, entry_after}
 use Rattle.block_machine.specs.Turns.{entries_lawful, blocks_lawful}
-use Rattle.drive_scene.specs.Scene.{Scene, Beat, capacity, scene_after}
+use Rattle.move_table.specs.Table.{is_awaited}
+use Rattle.drive_scene.specs.Scene.{Scene, Beat, capacity}
+use Rattle.drive_scene.specs.After.{scene_after}
+use Rattle.drive_scene.specs.MoveTurn.{IsMoveTurn, is_cut_off}
 use Rattle.drive_scene.specs.Evidence.{Shows, IsNextTry}
 use Rattle.drive_scene.specs.Holds.{holder_besides, destaged}
 
@@ -87,12 +90,12 @@ is_one_step before (op.WriteFailed p ∷ []) = true
 is_one_step before other = false
 
 -- the operations and entries of what happens from outside, while the power is off or on; minutes are counted while it is on, and
--- no power cut comes yet
+-- no power cut comes yet, armed or not
 abbrev pub IsWorldStep : Bool → World → List Entry → List Op → Type 0
 IsWorldStep off (world.Damage d) entries ops = (entries ≡ []) × (ops ≡ op.Damaged d ∷ [])
 IsWorldStep off (world.Fault p) entries ops = (entries ≡ []) × (ops ≡ op.Faulty p ∷ [])
-IsWorldStep off (world.Arm k tear) entries ops = (entries ≡ []) × (ops ≡ [])
 IsWorldStep off (world.Minutes n) entries ops = (entries ≡ (if off then [] else entry.Tick n ∷ [])) × (ops ≡ [])
+IsWorldStep off (world.Arm k tear) entries ops = ⊥
 IsWorldStep off world.Cut entries ops = ⊥
 IsWorldStep off world.Power entries ops = ⊥
 
@@ -106,12 +109,12 @@ pub record IsDestageTurn (s : Scene) (entries : List Entry) (ops : List Op) : Ty
   pub told : entries ≡ Harden who.Drive b ∷ []
   pub wrote : ops ≡ op.Wrote (placed s.map b bytes) ∷ []
 
--- a turn's operations are those of one step, and it isn't empty; no move and no scan comes yet
+-- a turn's operations are those of one step, and it isn't empty. A turn of a move in which the power goes doesn't come yet, and no scan
 abbrev pub IsStep : Scene → Label → List Entry → List Op → Type 0
 IsStep s (Arrive i) entries ops = ops ≡ []
 IsStep s (label.World w) entries ops = IsWorldStep (is_off s.ops) w entries ops
 IsStep s (Work c) entries ops = IsTrue (is_one_step (length s.ops) ops) × IsTrue (not (length ops == 0) || not (length entries == 0))
-IsStep s (label.Job j) entries ops = ⊥
+IsStep s (label.Job j) entries ops = IsMoveTurn s j entries ops × (is_cut_off ops ≡ false)
 IsStep s label.Scan entries ops = ⊥
 IsStep s label.Destage entries ops = IsDestageTurn s entries ops
 
@@ -140,7 +143,7 @@ IsFree s (Arrive i) b = Unit {0}
 IsFree s (label.World w) b = Unit {0}
 IsFree s (Work c) b = holder_besides s (Work c) b.0 ≡ None
 IsFree s label.Destage b = holder_besides s label.Destage b.0 ≡ None
-IsFree s (label.Job j) b = ⊥
+IsFree s (label.Job j) b = holder_besides s (label.Job j) b.0 ≡ None
 IsFree s label.Scan b = ⊥
 
 -- the turn has an entry on a block, or an operation at its place
@@ -194,14 +197,19 @@ are_in_order entries = all_along (λ before e. rank e) may_follow 0 entries
 abbrev pub IsMapped : Scene → Type 0
 IsMapped s = is_off s.ops ≡ false → s.hist.corrupt ≡ false → IsPresent (meant_on s.ops) s.map × MayBeRecovered s.map.size s.ops s.map
 
--- a turn of work has entries of its command alone; those of a destage are told by its step
+-- a turn of work has entries of its command alone; those of a move and of a destage are told by its step
 abbrev pub AreOwn : Label → List Entry → Type 0
 AreOwn (Work c) entries = IsTrue (list_all (is_entry_of c) entries)
 AreOwn (Arrive i) entries = Unit {0}
 AreOwn (label.World w) entries = Unit {0}
 AreOwn label.Destage entries = Unit {0}
-AreOwn (label.Job j) entries = ⊥
+AreOwn (label.Job j) entries = Unit {0}
 AreOwn label.Scan entries = ⊥
+
+-- a turn of work is of a command that opened a move which is in flight
+abbrev pub waits_for_move : Scene → Label → Bool
+waits_for_move s (Work c) = is_awaited s.back.flights c
+waits_for_move s label = false
 
 -- a payload is the data of one of the map's blocks, for its place
 abbrev pub IsBlockData : DefectMap → Payload → Type 0
@@ -217,6 +225,11 @@ WritesBlockData m entries (op.Wrote payload) = (own : IsBlockData m payload) × 
 WritesBlockData m entries (op.Torn payload tear) = ⊥
 WritesBlockData m entries other = Unit {0}
 
+-- nothing but blocks' data is written, each to its place beside its harden; what a move writes is told by its step
+abbrev pub WritesBlocks : DefectMap → Label → List Entry → List Op → Type 0
+WritesBlocks m (label.Job j) entries ops = Unit {0}
+WritesBlocks m label entries ops = All (WritesBlockData m entries) ops
+
 -- two operations for each of the 25 stages that the greatest retry count has
 abbrev pub window_at_most : ℕ
 window_at_most = 50
@@ -231,14 +244,15 @@ pub record GoodTurn (s : Scene) (t : Beat) : Type 0 where
   pub step : IsStep s t.label t.entries t.ops
   pub tries : AreTriesShown s t.label t.entries t.ops
   pub one_block : IsOnOneBlock t.entries
-  -- nothing but blocks' data is written, each to its place beside its harden
-  pub written : All (WritesBlockData s.map t.entries) t.ops
+  pub written : WritesBlocks s.map t.label t.entries t.ops
   pub own : AreOwn t.label t.entries
+  -- no command is worked on while a move that it opened is in flight
+  pub waits : waits_for_move s t.label ≡ false
   pub order : IsTrue (are_in_order t.entries)
   -- no window is longer than the tries of all stages
   pub window : (c : ℕ) → length ((scene_after s t).windows c) ≤ window_at_most
   -- nobody but the holder is about a block
   pub held : (b : Lba) → b.0 < capacity s → is_about s t b ≡ true → IsFree s t.label b
-  -- what is stored after it
-  pub stands : IsStood s.map (s.ops ++ t.ops) (scene_after s t).hist.blocks
+  -- what is stored after it, by the map then
+  pub stands : IsStood (scene_after s t).map (s.ops ++ t.ops) (scene_after s t).hist.blocks
   pub mapped : IsMapped (scene_after s t)

@@ -17,10 +17,11 @@ use Rattle.block_machine.specs.State.{State, owed_by}
 use Rattle.block_machine.specs.Steps.{begun, entry_after, entries_after}
 use Rattle.block_machine.specs.Entries.{entry_lawful}
 use Rattle.block_machine.specs.Turns.{is_start, blocks_lawful}
-use Rattle.drive_scene.specs.Scene.{Scene, capacity, settings_by, recovered_by, windows_with, beat}
+use Rattle.drive_scene.specs.Scene.{Scene, capacity, beat}
+use Rattle.drive_scene.specs.After.{settings_by, recovered_by, windows_with}
 use Rattle.drive_scene.specs.Holds.{held_block, holder_besides}
 use Rattle.drive_scene.specs.Evidence.{Shows}
-use Rattle.drive_scene.specs.GoodTurn.{IsStood, WritesBlockData, is_entry_of, are_on, is_about, is_one_step, are_in_order}
+use Rattle.drive_scene.specs.GoodTurn.{IsStood, WritesBlockData, is_entry_of, are_on, is_about, is_one_step, are_in_order, waits_for_move}
 
 -- a state differs from another in blocks and in one command's duty alone
 pub record IsQuiet (g h : State) (c : ℕ) : Type 0 where
@@ -57,8 +58,10 @@ pub record Half (s : Scene) (c : ℕ) (ops : List Op) (entries : List Entry) (h 
   -- the blocks that others hold are dirty where they were
   pub undirtied : (q n : ℕ) → q ≢ c → held_block s q ≡ Some n → is_dirty (h.blocks n) ≡ is_dirty (s.hist.blocks n)
 
--- the power is on, and the window of the command, where it is in, has room for the operations of one turn more
+-- the power is on, the window of the command, where it is in, has room for the operations of one turn more, and no move that it opened is
+-- in flight
 pub record IsReady (s : Scene) (c : ℕ) : Type 0 where
   pub powered : is_off s.ops ≡ false
   pub own : is_some (member_of s.hist.set c) ≡ true → length (s.windows c) ≤ 48
   pub all : (q : ℕ) → length (s.windows q) ≤ 50
+  pub waits : waits_for_move s (Work c) ≡ false

@@ -18,7 +18,7 @@ use Rattle.block_machine.specs.declared.turn.Label.TheVariants.{Work, Destage}
 use Rattle.block_machine.specs.Blocks.{Blocks, newest, after_harden, without_address}
 use Rattle.block_machine.specs.State.{State}
 use Rattle.block_machine.specs.Steps.{begun, entry_after}
-use Rattle.drive_scene.specs.Scene.{Scene, Beat, capacity, beat, scene_after}
+use Rattle.drive_scene.specs.Scene.{Scene, Beat, capacity, beat}
 use Rattle.drive_scene.specs.Holds.{holder_besides, destaged}
 use Rattle.drive_scene.specs.Present.{IsPresentMap}
 use Rattle.drive_scene.specs.Still.{IsStanding}

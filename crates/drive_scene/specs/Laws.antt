@@ -32,7 +32,8 @@ use Rattle.block_machine.specs.State.{State, owed_by}
 use Rattle.block_machine.specs.Steps.{begun, entry_after}
 use Rattle.block_machine.specs.Turns.{owes_nothing_now}
 use Rattle.drive_scene.specs.declared.made.Made.{Made}
-use Rattle.drive_scene.specs.Scene.{Scene, Beat, capacity, beat, factory_ops, scene_after}
+use Rattle.drive_scene.specs.Scene.{Scene, Beat, capacity, beat, factory_ops}
+use Rattle.drive_scene.specs.After.{scene_after}
 use Rattle.drive_scene.specs.Evidence.{IsGot, IsEndShown}
 use Rattle.drive_scene.specs.Holds.{holder_besides}
 use Rattle.drive_scene.specs.Present.{IsPresentMap}
@@ -128,9 +129,11 @@ DestagesAreGood = (s : Scene) (b : Lba) (bytes : List ℕ) → MayDestage s b by
 abbrev pub DestagesLeaveCommands : Type 0
 DestagesLeaveCommands = (s : Scene) (t : Beat) → t.label ≡ Destage → GoodTurn s t → (b : Lba) × IsAfterDestage s (scene_after s t) b
 
--- turns leave the map and the measures as they were
+-- turns leave the measures as they were; and where no move is in flight, the map too, and none comes to be, since nothing opens one yet
 abbrev pub MapsStay : Type 0
-MapsStay = (s : Scene) (turns : List Beat) → ((fold scene_after s turns).map ≡ s.map) × ((fold scene_after s turns).size ≡ s.size)
+MapsStay = (s : Scene) (turns : List Beat)
+    → (s.back.flights ≡ [] → ((fold scene_after s turns).map ≡ s.map) × ((fold scene_after s turns).back.flights ≡ []))
+    × ((fold scene_after s turns).size ≡ s.size)
 
 -- on a platter from the factory the power is on, no sector has a write fault, and the zeros of each block stand
 pub record IsFromFactory (made : Made) : Type 0 where

@@ -1,5 +1,8 @@
 pub mod Background
 pub mod Scene
+pub mod Carried
+pub mod MoveTurn
+pub mod After
 pub mod View
 pub mod Evidence
 pub mod Holds
@@ -9,11 +12,11 @@ pub mod Half
 pub mod Still
 pub mod Kinds
 pub mod Laws
-pub mod Carried
 pub mod CommitTurn
-pub mod MoveTurn
 pub mod Flights
 pub mod CommitTasks
+pub mod InFlight
+pub mod MoveLaws
 pub mod Run
 pub mod Ending
 pub mod Able

@@ -1,5 +1,5 @@
 -- The turn of a move: its operations by what the move needs next, what it tells, and what is in hand after it.
-use Rattle.std.specs.Prelude.{◌≡◌, ℕ, ◌+◌, ◌-◌, ◌==◌, not, Bool, true, false, if◌then◌else◌, List, [], ◌∷◌, ◌++◌, map, filter, find, flat_map, length, slice_get, Option, Some, None}
+use Rattle.std.specs.Prelude.{◌≡◌, ℕ, ◌+◌, ◌-◌, Bool, true, false, if◌then◌else◌, List, [], ◌∷◌, ◌++◌, length, slice_get, Option, Some, None}
 use Rattle.std.specs.List.{list_any}
 use Rattle.std.specs.Option.{option_map, option_and_then, is_none}
 use Rattle.disk_base.specs.At.{put_at}
@@ -23,17 +23,11 @@ use Rattle.sector_store.specs.Spares.{check_stage}
 use Rattle.task_set.specs.Members.{member_of}
 use Rattle.block_machine.specs.declared.entry.Entry.{Entry}
 use Rattle.block_machine.specs.declared.entry.Entry.TheVariants.{Logged, Cut}
-use Rattle.drive_scene.specs.Background.{Flight, Background}
+use Rattle.move_table.specs.declared.flight.Flight.{Flight}
+use Rattle.move_table.specs.Table.{job_in, taken, with_job, without_job}
+use Rattle.drive_scene.specs.Background.{Background}
 use Rattle.drive_scene.specs.Carried.{commit_entries, cut_entries}
 use Rattle.drive_scene.specs.Scene.{Scene}
-
--- the move in flight of a number
-abbrev pub job_in : List Flight → ℕ → Option Job
-job_in flights j = option_map (λ f. f.job) (find (λ f. f.j == j) flights)
-
--- the spares of all moves in flight, those that turned out bad too
-abbrev pub taken : List Flight → List Psn
-taken flights = flat_map (λ f. map (λ pair. pair.new) f.job.chain) flights
 
 -- the spare that is given next
 abbrev pub next_spare : Scene → Option Psn
@@ -120,14 +114,6 @@ pub record IsMoveTurn (s : Scene) (j : ℕ) (entries : List Entry) (ops : List O
   pub in_flight : job_in s.back.flights j ≡ Some job
   pub work : IsMoveWork s job job.step ops
   pub told : entries ≡ move_entries s job job.step ops
-
--- a move in flight that stands elsewhere
-abbrev pub with_job : ℕ → Job → List Flight → List Flight
-with_job j job flights = map {A = Flight} {B = Flight} (λ f. if f.j == j then record f { job = job } else f) flights
-
--- the moves in flight without one
-abbrev pub without_job : ℕ → List Flight → List Flight
-without_job j flights = filter (λ f. not (f.j == j)) flights
 
 -- a move that was committed counts for its owner
 abbrev pub with_moved : Option ℕ → (ℕ → ℕ) → ℕ → ℕ

@@ -7,7 +7,8 @@ use Rattle.geometry_map.specs.DefectMap.{IsValidMap, factory_map}
 use Rattle.sector_store.specs.State.{Contained}
 use Rattle.block_machine.specs.declared.turn.Turn.{Turn}
 use Rattle.drive_scene.specs.declared.made.Made.{Made}
-use Rattle.drive_scene.specs.Scene.{Scene, Beat, scene_at_start, scene_after, factory_ops}
+use Rattle.drive_scene.specs.Scene.{Scene, Beat, scene_at_start, factory_ops}
+use Rattle.drive_scene.specs.After.{scene_after}
 use Rattle.drive_scene.specs.GoodTurn.{GoodTurn}
 
 -- what the factory was told, the drive's turns, the operations of its platter, and how many arrivals are still expected

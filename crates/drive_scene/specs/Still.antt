@@ -8,10 +8,11 @@ use Rattle.block_machine.specs.declared.entry.Entry.{Entry}
 use Rattle.block_machine.specs.declared.turn.Label.{Label}
 use Rattle.block_machine.specs.Steps.{begun, entry_after}
 use Rattle.block_machine.specs.Turns.{entries_lawful, blocks_lawful}
-use Rattle.drive_scene.specs.Scene.{Scene, capacity, scene_after, beat}
+use Rattle.drive_scene.specs.Scene.{Scene, capacity, beat}
+use Rattle.drive_scene.specs.After.{scene_after}
 use Rattle.drive_scene.specs.Evidence.{lba, Shows}
 use Rattle.drive_scene.specs.Present.{IsPresentMap}
-use Rattle.drive_scene.specs.GoodTurn.{IsStood, IsStep, AreOwn, is_on, are_on, are_in_order}
+use Rattle.drive_scene.specs.GoodTurn.{IsStood, IsStep, AreOwn, is_on, are_on, are_in_order, waits_for_move}
 
 -- what such a turn has to say of its entries
 pub record IsStill (s : Scene) (label : Label) (entries : List Entry) : Type 0 where
@@ -23,6 +24,7 @@ pub record IsStill (s : Scene) (label : Label) (entries : List Entry) : Type 0 w
   pub on_one : are_on (lba 0) entries ≡ true
   pub own : AreOwn label entries
   pub order : are_in_order entries ≡ true
+  pub waits : waits_for_move s label ≡ false
   pub windows : (q : ℕ) → length ((scene_after s (beat label entries [])).windows q) ≤ 50
   pub unchanged : (scene_after s (beat label entries [])).hist.blocks ≡ s.hist.blocks
 

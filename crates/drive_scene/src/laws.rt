@@ -64,7 +64,7 @@ pub fn destages_leave_commands()
     ensures { DestagesLeaveCommands }
 {}
 
-/// Turns leave the map and the measures as they were.
+/// Turns leave the measures as they were and, where no move is in flight, the map too.
 pub fn maps_stay()
     ensures { MapsStay }
 {}

@@ -4,12 +4,14 @@
 
 mod answer;
 mod event;
+mod in_flight;
 mod laws;
 mod made;
 mod moves;
 
 pub use answer::{Ended, Pick, TurnAnswer, Waiting};
 pub use event::{Arrival, Arriving, Event, Holder};
+pub use in_flight::{flights_fit, no_flights_are_valid, others_leave_flights, turns_keep_flights};
 pub use laws::{
     damage_turns_are_good, destages_are_good, destages_leave_commands, factories_leave_zeros,
     gets_are_halves, halves_are_good, hardens_are_halves, maps_stay, passes_are_halves,
@@ -19,5 +21,5 @@ pub use laws::{
 pub use made::Made;
 pub use moves::{
     commit_turns_stand, commits_leave_others, commits_may_be_told, flights_are_ready_to_commit,
-    flights_stay, moves_go_on, moves_leave_others,
+    flights_stay, moves_are_good, moves_go_on, moves_leave_others,
 };

@@ -1,5 +1,5 @@
 -- Two moves in flight: block 5 is given up by command 3, and command 4 writes block 9.
-use Rattle.std.proofs.Common.{◌≡◌, ◌<◌, true, false, List, [], ◌∷◌, refl, zero, suc, arith}
+use Rattle.std.proofs.Common.{◌≡◌, ◌<◌, true, false, List, [], ◌∷◌, refl, arith}
 use Rattle.std.specs.Prelude.{Some, None}
 use Rattle.disk_base.specs.declared.block.Value.TheVariants.{Lost}
 use Rattle.disk_base.specs.declared.stage.MoveWhy.TheVariants.{GivenUp, Write}
