@@ -1,5 +1,5 @@
 -- While commands are in, work on one of them may come.
-use Rattle.std.proofs.Common.{◌≡◌, ◌≢◌, ℕ, ◌<◌, Bool, true, false, not, cond, eqb, List, [], ◌∷◌, length, Option, Some, None, refl, sym, ap, ◌∙◌, arith, filter}
+use Rattle.std.proofs.Common.{◌≡◌, ◌≢◌, inl, inr, ℕ, ◌<◌, Bool, true, false, not, cond, eqb, List, [], ◌∷◌, length, Option, Some, None, refl, sym, ap, ◌∙◌, arith, filter}
 use Rattle.std.specs.Prelude.{◌&&◌, ◌||◌, find}
 use Rattle.std.specs.Option.{option_map, option_map_or, option_and_then, is_some, is_none}
 use Rattle.std.proofs.lemmas.Bool.{cond-true, cond-false, eqb-true, eqb-false, lt-ltb, and_parts, not-true}
@@ -30,6 +30,7 @@ use Rattle.drive_core.specs.Fits.{Fits}
 use Rattle.drive_scene.specs.Able.{held_by_other, work_refused, is_able, nothing_waiting}
 use Rattle.drive_scene.specs.Progress.{SomebodyIsAble}
 use Rattle.drive_core.proofs.AtBlock.{at_block}
+use Rattle.drive_core.proofs.Flightless.{holder_alone}
 use Rattle.drive_scene.proofs.Walking.{member-number, able-quiet}
 use Rattle.drive_scene.proofs.Apart.{unheld_sync, unheld_write}
 
@@ -127,13 +128,18 @@ unheld : (s : Scene) (c : ℕ) (m : Member) → m.started ≡ true → option_an
 unheld s c m started none =
     cond-true m.started (option_and_then (held_by_other s c) (needed_block s c)) (option_map answer.Dormant (first_forbidding s.hist.set m.task)) started ∙ none
 
+-- a block that no other command holds is held by nobody else
+none_holds : (s : Scene) (c b : ℕ) → s.back.flights ≡ [] → command_besides s (label.Work c) b ≡ None → held_by_other s c b ≡ None
+none_holds s c b flightless none =
+    ap (option_map (λ other. answer.Held (lba b) other)) (holder_alone s (label.Work c) b flightless ∙ ap (option_map holder.Command) none)
+
 -- the holder of a block waits for nobody
-holder_free : (s : Scene) (q b : ℕ) (o : Option ℕ) → IsApart s → held_block s q ≡ Some b → command_besides s (label.Work q) b ≡ o
-    → option_map (λ other. answer.Held (lba b) other) (option_map holder.Command o) ≡ None
-holder_free s q b None apart held is = refl
-holder_free s q b (Some x) apart held is =
+holder_free : (s : Scene) (q b : ℕ) (o : Option ℕ) → IsApart s → s.back.flights ≡ [] → held_block s q ≡ Some b → command_besides s (label.Work q) b ≡ o
+    → held_by_other s q b ≡ None
+holder_free s q b None apart flightless held is = none_holds s q b flightless is
+holder_free s q b (Some x) apart flightless held is =
     let found : Found s q b x = found_in s q b x s.hist.set is in
-    absurd (found.other (apart x q b found.held held))
+    absurd (found.other (apart.commands x q b found.held held))
 
 free_holder : (s : Scene) (d : Server) (q b : ℕ) → Fits s d → held_block s q ≡ Some b → IsFree s
 free_holder s d q b fits held =
@@ -143,7 +149,7 @@ free_holder s d q b fits held =
       m = holds_it.m;
       is_in = holds_it.is_in;
       free = unheld s q holds_it.m holds_it.started
-          (ap (option_and_then (held_by_other s q)) holds_it.needs ∙ holder_free s q b (command_besides s (label.Work q) b) fits.apart held refl);
+          (ap (option_and_then (held_by_other s q)) holds_it.needs ∙ holder_free s q b (command_besides s (label.Work q) b) fits.apart fits.flightless held refl);
     }
 
 by_holder : (s : Scene) (d : Server) (c b : ℕ) (m : Member) (o : Option ℕ) → Fits s d → member_of s.hist.set c ≡ Some m → m.started ≡ true
@@ -152,8 +158,7 @@ by_holder s d c b m None fits is_in started needs none = record {
   c = c;
   m = m;
   is_in = is_in;
-  free = unheld s c m started (ap (option_and_then (held_by_other s c)) needs
-      ∙ ap (λ (o : Option ℕ). option_map (λ other. answer.Held (lba b) other) (option_map holder.Command o)) none);
+  free = unheld s c m started (ap (option_and_then (held_by_other s c)) needs ∙ none_holds s c b fits.flightless none);
 }
 by_holder s d c b m (Some q) fits is_in started needs is = free_holder s d q b fits (found_in s c b q s.hist.set is).held
 
@@ -195,10 +200,11 @@ some_left p (x ∷ xs) c m is passes = by (λ rest. some_left p xs c m rest pass
     by rest false px false there = rest there
 
 pub somebody_is_able : (s : Scene) (d : Server) → Fits s d → IsByAge s.hist.set → SomeCommandMayRun → SomebodyIsAble s
-somebody_is_able s d fits by_age law some =
+somebody_is_able s d fits by_age law (inr flying) = let none : length s.back.flights ≡ 0 = ap length fits.flightless in absurd (omega (arith, flying))
+somebody_is_able s d fits by_age law (inl some) =
     let runs = law s.hist.set by_age some in
     let one : IsFree s = by_member s d runs.0 (member_of s.hist.set runs.0) fits refl runs.1 runs.2 in
     let passes : is_able s one.m ≡ true =
     ap (λ (n : ℕ). is_none (work_refused s n one.m)) (member-number s.hist.set one.c one.m one.is_in) ∙ ap is_none one.free in
     let left : 0 < length (filter (is_able s) s.hist.set) = some_left (is_able s) s.hist.set one.c one.m one.is_in passes in
-    omega (arith, left, ap length (able-quiet s nothing_waiting refl), length-map (filter (is_able s) s.hist.set) (λ (m : Member). pick.Work m.task.c))
+    omega (arith, left, ap length (able-quiet s nothing_waiting fits.flightless refl), length-map (filter (is_able s) s.hist.set) (λ (m : Member). pick.Work m.task.c))

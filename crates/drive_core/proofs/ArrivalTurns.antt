@@ -27,7 +27,8 @@ use Rattle.drive_scene.specs.declared.event.Event.{Event}
 use Rattle.drive_scene.specs.declared.event.Event.TheVariants as event
 use Rattle.drive_core.specs.declared.server.Server.{Server}
 use Rattle.drive_scene.specs.declared.answer.Ended as told_end
-use Rattle.drive_scene.specs.Scene.{Scene, capacity, scene_after, beat}
+use Rattle.drive_scene.specs.Scene.{Scene, capacity, beat}
+use Rattle.drive_scene.specs.After.{scene_after}
 use Rattle.drive_scene.proofs.DestageTurns.{quiet_back}
 use Rattle.drive_scene.specs.Evidence.{IsEndShown}
 use Rattle.drive_scene.specs.Holds.{held_by_plan, held_block}
@@ -44,6 +45,8 @@ use Rattle.drive_core.specs.Making.{entries_at_most}
 use Rattle.drive_scene.proofs.Tables.{put_at-own, put_at-other}
 use Rattle.drive_scene.proofs.Keyed.{find-push_own, find-push_other}
 use Rattle.drive_scene.proofs.Elsewhere.{IsAlike, held-alike}
+use Rattle.drive_scene.proofs.Uncommitted.{stays_flightless}
+use Rattle.drive_core.proofs.Flightless.{same_flights}
 use Rattle.drive_core.proofs.Elsewhere.{staged-alike, all_staged}
 use Rattle.drive_scene.proofs.Apart.{held_out, apart_none}
 use Rattle.drive_core.proofs.Parts.{cached_got, quiet_got}
@@ -155,10 +158,12 @@ module _ (s : Scene) (d e : Server) (x : Arriving) (c : ℕ) (fits : Fits s d) (
                 (omega arith));
           };
           staged = all_staged t e.commands.items c (subst (λ (o : Option Accepted). IsStaged (view t c) o) (sym own_member) own) others;
-          apart = apart_none s t c fits.apart (λ q other. held-alike s t q (alike q other)) unheld;
+          apart = apart_none s t c fits.apart (same_flights s (beat (Arrive x.initiator) (entry_of c x ∷ []) []) fits.flightless)
+              (λ q other. held-alike s t q (alike q other)) unheld;
           windows = windows;
           stands = still_stands s d e fits store_is;
           unstuck = quiet_back s (beat (Arrive x.initiator) (entry_of c x ∷ []) []) fits.unstuck;
+          flightless = stays_flightless s (beat (Arrive x.initiator) (entry_of c x ∷ []) []) fits.flightless;
         };
         counted = omega arith;
         ended = refl;
@@ -214,10 +219,12 @@ module _ (s : Scene) (d e : Server) (x : Arriving) (c : ℕ) (fits : Fits s d) (
               (sym (ap (λ (xs : List Accepted). accepted_of xs c) commands_are ∙ not_accepted (view s c) (accepted_of d.commands.items c) (fits.staged c) absent)) gone)
               (λ q other. staged-alike s t q (accepted_of d.commands.items q) (accepted_of e.commands.items q) (alike q other)
               (ap (λ (xs : List Accepted). accepted_of xs q) commands_are) (fits.staged q));
-          apart = apart_none s t c fits.apart (λ q other. held-alike s t q (alike q other)) (held_out t c gone);
+          apart = apart_none s t c fits.apart (same_flights s (beat (Arrive x.initiator) (entry_of c x ∷ Ended c task_set_full ∷ []) []) fits.flightless)
+              (λ q other. held-alike s t q (alike q other)) (held_out t c gone);
           windows = windows;
           stands = still_stands s d e fits store_is;
           unstuck = quiet_back s (beat (Arrive x.initiator) (entry_of c x ∷ Ended c task_set_full ∷ []) []) fits.unstuck;
+          flightless = stays_flightless s (beat (Arrive x.initiator) (entry_of c x ∷ Ended c task_set_full ∷ []) []) fits.flightless;
         };
         counted = omega arith;
         ended = refl;

@@ -24,10 +24,11 @@ use Rattle.history_replay.specs.Known.{scan_of}
 use Rattle.history_replay.specs.Warning.{KnownWait, waiting_state}
 use Rattle.drive_core.specs.declared.accepted.Accepted.{Accepted}
 use Rattle.drive_core.specs.declared.server.Server.{Server}
-use Rattle.drive_scene.specs.Scene.{Scene, capacity, scene_after, windows_with, beat}
+use Rattle.drive_scene.specs.Scene.{Scene, capacity, beat}
+use Rattle.drive_scene.specs.After.{scene_after, windows_with}
 use Rattle.drive_scene.proofs.DestageTurns.{quiet_back}
 use Rattle.drive_scene.specs.Evidence.{lba}
-use Rattle.drive_scene.specs.Holds.{held_block, IsApart}
+use Rattle.drive_scene.specs.Holds.{held_block}
 use Rattle.drive_core.specs.Accepting.{accepted_of}
 use Rattle.drive_scene.specs.View.{view}
 use Rattle.drive_core.specs.Commands.{IsStaged}
@@ -37,6 +38,8 @@ use Rattle.drive_core.specs.Fits.{Fits, IsCached}
 use Rattle.drive_core.specs.Moves.{Moves}
 use Rattle.drive_scene.proofs.Keyed.{find-kept}
 use Rattle.drive_scene.proofs.Elsewhere.{IsAlike, held-alike}
+use Rattle.drive_scene.proofs.Uncommitted.{stays_flightless}
+use Rattle.drive_core.proofs.Flightless.{apart_alone}
 use Rattle.drive_core.proofs.Elsewhere.{staged-alike}
 use Rattle.drive_scene.proofs.Apart.{held_out}
 use Rattle.drive_core.proofs.Parts.{cached_got, quiet_got}
@@ -150,7 +153,7 @@ module _ (s : Scene) (d e : Server) (i : ℕ) (what : Function) (gone : List ℕ
           (accepted_are q ∙ ap (λ (o : Option Member). cond (is_some o) (accepted_of d.commands.items q) None) is) (fits.staged q)
 
   -- what ended commands held is free
-  apart : IsApart t
+  apart : (x y b : ℕ) → held_block t x ≡ Some b → held_block t y ≡ Some b → x ≡ y
   apart x y b of_x of_y = by (stays x) (stays y)
     where
       free : (q : ℕ) → held_block t q ≡ Some b → member_of t.hist.set q ≡ None → ⊥
@@ -160,7 +163,7 @@ module _ (s : Scene) (d e : Server) (i : ℕ) (what : Function) (gone : List ℕ
           → (member_of t.hist.set y ≡ None) ⊎ (member_of t.hist.set y ≡ member_of s.hist.set y) → x ≡ y
       by (inl none) other = absurd (free x of_x none)
       by (inr same) (inl none) = absurd (free y of_y none)
-      by (inr one) (inr two) = fits.apart x y b (sym (held-alike s t x (alike x one)) ∙ of_x) (sym (held-alike s t y (alike y two)) ∙ of_y)
+      by (inr one) (inr two) = fits.apart.commands x y b (sym (held-alike s t x (alike x one)) ∙ of_x) (sym (held-alike s t y (alike y two)) ∙ of_y)
 
   blocks_are : t.hist.blocks ≡ s.hist.blocks
   blocks_are = ap (λ (x : State). x.blocks) reached
@@ -169,6 +172,9 @@ module _ (s : Scene) (d e : Server) (i : ℕ) (what : Function) (gone : List ℕ
   ends_named : are_aborted (numbers (filter (is_named (named_by i what)) s.hist.set)) (map Aborted gone) ≡ true
   ends_named = ap (λ (cs : List ℕ). are_aborted cs (map Aborted gone))
       (ap (λ (ms : List Member). numbers (filter (is_named_by i what) ms)) (sym fits.tasks.set) ∙ sym gone_are) ∙ all_aborted gone
+
+  flightless : t.back.flights ≡ []
+  flightless = stays_flightless s (beat (Arrive i) entries []) fits.flightless
 
   after_it : Fits t e
   after_it = record {
@@ -196,10 +202,11 @@ module _ (s : Scene) (d e : Server) (i : ℕ) (what : Function) (gone : List ℕ
           (subst (λ (ms : List Member). All (λ (m : Member). m.task.c ≤ s.hist.arrived) ms) (sym fits.tasks.set) fits.tasks.came)));
     };
     staged = staged;
-    apart = apart;
+    apart = apart_alone t flightless apart;
     windows = windows;
     stands = subst (λ bs. IsStood s.map (s.ops ++ []) bs) (sym blocks_are) (still_stands s d e fits asked.store);
     unstuck = quiet_back s (beat (Arrive i) entries []) fits.unstuck;
+    flightless = flightless;
   }
 
   made : Moves (Arrive i) s d e entries None

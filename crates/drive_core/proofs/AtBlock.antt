@@ -11,7 +11,7 @@ use Rattle.cdb_reader.specs.declared.plan.Plan.{Plan}
 use Rattle.cdb_reader.specs.declared.plan.Plan.TheVariants.{Reading, Writing, Syncing}
 use Rattle.command_engine.specs.declared.step.Step.{Step}
 use Rattle.command_engine.specs.declared.step.Step.TheVariants.{Trying}
-use Rattle.drive_scene.specs.Scene.{last_found}
+use Rattle.drive_scene.specs.After.{last_found}
 use Rattle.drive_scene.specs.View.{View}
 use Rattle.drive_core.specs.Commands.{IsAtBlock, IsTrying}
 

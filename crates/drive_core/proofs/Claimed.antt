@@ -11,7 +11,6 @@ use Rattle.disk_base.specs.declared.address.Lba.{Lba}
 use Rattle.task_set.specs.declared.member.Member.{Member}
 use Rattle.task_set.specs.Members.{member_of, first_forbidding, blocker_of, IsByAge}
 use Rattle.block_machine.specs.declared.turn.Label.TheVariants as label
-use Rattle.drive_scene.specs.declared.event.Holder.{Holder}
 use Rattle.drive_scene.specs.declared.event.Holder.TheVariants.{Command}
 use Rattle.drive_scene.specs.declared.answer.TurnAnswer.{TurnAnswer}
 use Rattle.drive_scene.specs.declared.answer.TurnAnswer.TheVariants as answer
@@ -21,6 +20,7 @@ use Rattle.drive_scene.specs.Holds as scene
 use Rattle.drive_scene.specs.Able.{held_by_other, work_refused, refusal_of_work}
 use Rattle.drive_scene.proofs.Walking.{member-number, member-itself, refusal-is}
 use Rattle.drive_scene.specs.Evidence.{lba}
+use Rattle.drive_core.proofs.Flightless.{holder_alone}
 use Rattle.drive_core.specs.declared.accepted.Accepted.{Accepted}
 use Rattle.drive_core.specs.declared.able.Claim.{Claim}
 use Rattle.drive_core.specs.Accepting.{is_numbered}
@@ -60,21 +60,22 @@ twice : (o : Option Member) → option_map (λ (x : Member). Command x.task.c) o
 twice None = refl
 twice (Some m) = refl
 
-holder-is : (s : Scene) (c : ℕ) (b : Lba) → holder_besides (holders_of s) c b ≡ scene.holder_besides s (label.Work c) b.0
-holder-is s c b = first-holder s c b s.hist.set ∙ twice (find (λ (m : Member). not (eqb m.task.c c) && holds s b.0 m.task.c) s.hist.set)
+holder-is : (s : Scene) (c : ℕ) (b : Lba) → s.back.flights ≡ [] → holder_besides (holders_of s) c b ≡ scene.holder_besides s (label.Work c) b.0
+holder-is s c b none = first-holder s c b s.hist.set
+    ∙ (twice (find (λ (m : Member). not (eqb m.task.c c) && holds s b.0 m.task.c) s.hist.set) ∙ sym (holder_alone s (label.Work c) b.0 none))
 
 -- the block that it needs
-held-back-by : (s : Scene) (c : ℕ) (o : Option ℕ) → option_and_then (λ (b : Lba). option_map (answer.Held b) (holder_besides (holders_of s) c b)) (option_map lba o)
+held-back-by : (s : Scene) (c : ℕ) (o : Option ℕ) → s.back.flights ≡ [] → option_and_then (λ (b : Lba). option_map (answer.Held b) (holder_besides (holders_of s) c b)) (option_map lba o)
     ≡ option_and_then (held_by_other s c) o
-held-back-by s c None = refl
-held-back-by s c (Some b) = ap (option_map (answer.Held (lba b))) (holder-is s c (lba b))
+held-back-by s c None none = refl
+held-back-by s c (Some b) none = ap (option_map (answer.Held (lba b))) (holder-is s c (lba b) none)
 
 -- a started command is refused by the claims
-pub started-refused : (s : Scene) (m : Member) (claim : Claim) (holders : List Claim) → m.started ≡ true → claim ≡ claim_of s m.task.c → holders ≡ holders_of s
-    → held_back holders claim ≡ work_refused s m.task.c m
-started-refused s m claim holders started claims all =
+pub started-refused : (s : Scene) (m : Member) (claim : Claim) (holders : List Claim) → s.back.flights ≡ [] → m.started ≡ true → claim ≡ claim_of s m.task.c
+    → holders ≡ holders_of s → held_back holders claim ≡ work_refused s m.task.c m
+started-refused s m claim holders none started claims all =
     (λ i. held_back (all i) (claims i))
-    ∙ (held-back-by s m.task.c (needed_block s m.task.c)
+    ∙ (held-back-by s m.task.c (needed_block s m.task.c) none
     ∙ sym (ap (λ (t : Bool). cond t (option_and_then (held_by_other s m.task.c) (needed_block s m.task.c)) (option_map answer.Dormant (first_forbidding s.hist.set m.task))) started))
 
 -- one that wasn't is refused by the set
@@ -174,11 +175,11 @@ pub gathered : (s : Scene) (claims slice holders shown : List Claim) → claims 
 gathered s claims slice holders shown all same those shows = shows ∙ (those ∙ ap (filter is_holder) (same ∙ all))
 
 -- work on a command of a number is refused by the claims, where it was started
-pub refused-by-claims : (s : Scene) (set : List Member) (c coming : ℕ) (m : Member) (claim : Claim) (holders : List Claim) (r : Option TurnAnswer) → set ≡ s.hist.set
+pub refused-by-claims : (s : Scene) (set : List Member) (c coming : ℕ) (m : Member) (claim : Claim) (holders : List Claim) (r : Option TurnAnswer) → s.back.flights ≡ [] → set ≡ s.hist.set
     → member_of set c ≡ Some m → m.started ≡ true → claim ≡ claim_of s c → holders ≡ holders_of s → r ≡ held_back holders claim
     → r ≡ refusal_of_work s coming c
-refused-by-claims s set c coming m claim holders r same is started claims all refused =
-    refused ∙ (started-refused s m claim holders started (claims ∙ ap (claim_of s) (sym (member-number set c m is))) all ∙ refusal-is s set c coming m same is)
+refused-by-claims s set c coming m claim holders r none same is started claims all refused =
+    refused ∙ (started-refused s m claim holders none started (claims ∙ ap (claim_of s) (sym (member-number set c m is))) all ∙ refusal-is s set c coming m same is)
 
 -- and by the set, where it wasn't
 pub refused-by-set : (s : Scene) (set : List Member) (c coming : ℕ) (m : Member) (r : Option TurnAnswer) → set ≡ s.hist.set

@@ -1,8 +1,8 @@
 -- Which block is destaged, by the cache and by what the commands hold.
-use Rattle.std.proofs.Common.{◌≡◌, ℕ, ◌+◌, ◌<◌, Bool, true, false, not, cond, eqb, List, [], ◌∷◌, ◌++◌, get_or, take, length, Option, Some, None, refl, sym, ap, ◌∙◌, subst, map}
+use Rattle.std.proofs.Common.{◌≡◌, ℕ, ◌+◌, ◌<◌, Bool, true, false, not, cond, eqb, List, [], ◌∷◌, ◌++◌, get_or, take, length, Option, Some, None, refl, sym, ap, ◌∙◌, map}
 use Rattle.std.specs.Prelude.{◌&&◌, ◌||◌, find}
 use Rattle.std.specs.List.{list_any}
-use Rattle.std.specs.Map.{keys_of, lookup}
+use Rattle.std.specs.Map.{keys_of}
 use Rattle.std.specs.Option.{option_map, option_map_or, is_none}
 use Rattle.std.proofs.lemmas.List.{take_more}
 use Rattle.std.proofs.lemmas.List.Folds.{list_any-append}
@@ -13,11 +13,12 @@ use Rattle.write_cache.specs.Contents.{Contents, is_at, newest, oldest_but}
 use Rattle.block_machine.specs.declared.turn.Label.TheVariants.{Destage}
 use Rattle.drive_scene.specs.Scene.{Scene}
 use Rattle.drive_scene.specs.Evidence.{lba}
-use Rattle.drive_scene.specs.Holds.{held_block, holder_besides, holds, destaged}
+use Rattle.drive_scene.specs.Holds.{held_block, command_besides, holder_besides, holds, destaged}
 use Rattle.drive_core.specs.declared.able.Claim.{Claim}
 use Rattle.drive_core.specs.declared.server.Server.{Server}
 use Rattle.drive_core.specs.Claims.{claim_of, claims_of, is_held_by}
 use Rattle.drive_core.specs.Fits.{Fits, IsCached}
+use Rattle.drive_core.proofs.Flightless.{holder_alone}
 use Rattle.drive_core.proofs.HardenParts.{same_test}
 use Rattle.drive_core.proofs.PutParts.{unnamed}
 
@@ -44,9 +45,9 @@ none-mapped f None = refl
 none-mapped f (Some x) = refl
 
 -- nobody holds a block that no claim holds
-free-by-claims : (s : Scene) (b : Lba) → is_none (holder_besides s Destage b.0) ≡ not (list_any (is_held_by b) (claims_of s))
-free-by-claims s b =
-    none-mapped _ _ ∙ (none-mapped (λ (m : Member). m.task.c) _
+free-by-claims : (s : Scene) (b : Lba) → s.back.flights ≡ [] → is_none (holder_besides s Destage b.0) ≡ not (list_any (is_held_by b) (claims_of s))
+free-by-claims s b none =
+    ap is_none (holder_alone s Destage b.0 none) ∙ none-mapped _ (command_besides s Destage b.0) ∙ (none-mapped (λ (m : Member). m.task.c) _
     ∙ (none-found (λ (m : Member). holds s b.0 m.task.c) s.hist.set ∙ sym (ap not (held_in s b s.hist.set))))
 
 find-mapped : (p : ℕ → Bool) (q : Lba → Bool) (ks : List Lba) → ((k : Lba) → q k ≡ p k.0) → find q ks ≡ option_map lba (find p (map (λ (k : Lba). k.0) ks))
@@ -63,7 +64,7 @@ pub destaged-is : (s : Scene) (d : Server) (held : List Lba) (r : Option Lba) �
 destaged-is s d held r fits are is =
     let test : ℕ → Bool = λ n. not (s.back.stuck n) && is_none (holder_besides s Destage n) in
     let same : (k : Lba) → not (list_any (is_at k) held) ≡ (not (s.back.stuck k.0) && is_none (holder_besides s Destage k.0)) = λ k.
-    ap not (are k) ∙ (sym (free-by-claims s k) ∙ sym (ap (λ (t : Bool). not t && is_none (holder_besides s Destage k.0)) (fits.unstuck k.0))) in
+    ap not (are k) ∙ (sym (free-by-claims s k fits.flightless) ∙ sym (ap (λ (t : Bool). not t && is_none (holder_besides s Destage k.0)) (fits.unstuck k.0))) in
     is ∙ (find-mapped (λ n. not (s.back.stuck n) && is_none (holder_besides s Destage n)) (λ k. not (list_any (is_at k) held)) (keys_of d.store.cache.dirty) same
     ∙ ap (λ (ns : List ℕ). option_map lba (find (λ n. not (s.back.stuck n) && is_none (holder_besides s Destage n)) ns)) fits.cached.ages)
 

@@ -1,5 +1,5 @@
 -- A turn in which the drive destages a block.
-use Rattle.std.proofs.Common.{◌≡◌, ℕ, ◌<◌, ◌^◌, true, false, List, [], ◌∷◌, ◌++◌, Option, Some, None, refl, sym, ap, ◌∙◌, subst, arith}
+use Rattle.std.proofs.Common.{◌≡◌, ℕ, ◌<◌, ◌^◌, true, List, [], ◌∷◌, ◌++◌, Option, Some, None, refl, sym, ap, ◌∙◌, subst, arith}
 use Rattle.std.specs.Option.{option_map}
 use Rattle.disk_base.specs.declared.address.Lba.{Lba}
 use Rattle.disk_base.specs.declared.block.Value.TheVariants.{Data}
@@ -21,7 +21,8 @@ use Rattle.block_machine.specs.declared.entry.Who.TheVariants.{Drive}
 use Rattle.block_machine.specs.declared.turn.Label.TheVariants.{Destage}
 use Rattle.block_machine.specs.Blocks.{is_dirty}
 use Rattle.drive_core.specs.declared.server.Server.{Server}
-use Rattle.drive_scene.specs.Scene.{Scene, capacity, scene_after}
+use Rattle.drive_scene.specs.Scene.{Scene, capacity}
+use Rattle.drive_scene.specs.After.{scene_after}
 use Rattle.drive_scene.specs.Holds.{holder_besides, destaged}
 use Rattle.drive_scene.specs.Evidence.{lba}
 use Rattle.drive_scene.specs.GoodTurn.{GoodTurn}
@@ -34,6 +35,8 @@ use Rattle.drive_core.specs.Fits.{Fits, KnowsHistory}
 use Rattle.drive_core.specs.Moves.{Moves}
 use Rattle.drive_scene.proofs.DestageTurns.{destaged_free, not_destaged, quiet_back}
 use Rattle.drive_scene.proofs.Tables.{put_at-other, within_map}
+use Rattle.drive_scene.proofs.Uncommitted.{stays_flightless}
+use Rattle.drive_core.proofs.Flightless.{apart_alone}
 use Rattle.drive_core.proofs.Closing.{present_after}
 use Rattle.drive_core.proofs.Destaged.{destaged-dirty}
 use Rattle.drive_core.proofs.Elsewhere.{staged-alike}
@@ -105,10 +108,11 @@ fits_destaged s d e b bytes wrote may good set commands arrived known =
         recovered = refl;
         dirty = λ n holds. ap is_dirty (put_at-other b.0 n _ s.hist.blocks (not_destaged s q b.0 n free holds));
       }) (λ i. accepted_of (commands i).items q) (fits.staged q);
-      apart = fits.apart;
+      apart = apart_alone t (stays_flightless s (destage_of s b bytes) fits.flightless) fits.apart.commands;
       windows = fits.windows;
       stands = good.stands;
       unstuck = quiet_back s (destage_of s b bytes) fits.unstuck;
+      flightless = stays_flightless s (destage_of s b bytes) fits.flightless;
     }
 
 pub destage_moves : (s : Scene) (d e : Server) (b : Lba) (entries : List Entry) → MayWriteOut s d b → IsDestage d e b → entries ≡ Harden Drive b ∷ []

@@ -1,5 +1,5 @@
 -- A turn of a drive, from its refusal to the turn that it adds.
-use Rattle.std.proofs.Common.{◌≡◌, ℕ, ◌<◌, Bool, true, false, cond, List, [], ◌∷◌, ◌++◌, length, Option, Some, None, refl, sym, ap, ◌∙◌, subst, arith}
+use Rattle.std.proofs.Common.{◌≡◌, ◌⊎◌, inl, inr, ℕ, ◌<◌, Bool, true, false, cond, List, [], ◌∷◌, ◌++◌, length, Option, Some, None, refl, sym, ap, ◌∙◌, subst, arith}
 use Rattle.std.specs.Prelude.{MatchOption, ◌&&◌, ◌||◌, nat_le}
 use Rattle.std.specs.List.{list_any}
 use Rattle.std.specs.Option.{option_map_or, option_or, is_some}
@@ -27,6 +27,8 @@ use Rattle.drive_core.specs.declared.server.Server.{Server}
 use Rattle.drive_core.specs.declared.turning.MadeTurn.{MadeTurn}
 use Rattle.drive_scene.specs.Scene.{Scene, Beat, capacity, beat}
 use Rattle.drive_scene.specs.Holds.{destaged}
+use Rattle.move_table.specs.Table.{job_in}
+use Rattle.move_table.specs.declared.flight.Flight.{Flight}
 use Rattle.drive_scene.specs.Evidence.{Shows}
 use Rattle.drive_scene.specs.Run.{Run, behind_factory, run_of, scene_of}
 use Rattle.drive_scene.specs.View.{view}
@@ -63,6 +65,7 @@ fits-same s old new same fits = record {
   windows = fits.windows;
   stands = fits.stands;
   unstuck = fits.unstuck;
+  flightless = fits.flightless;
 }
 
 pub run-same : (made : Made) (old new : Server) (turns given : List Turn) (coming : ℕ) → given ≡ turns → IsSameServer old new
@@ -98,11 +101,20 @@ idle_at_none false n is = absurd (cc)
 free_at_none : (s : Scene) (n : ℕ) (e : Event) → refusal_on s n e ≡ None → refusal_on s 0 e ≡ None
 free_at_none s n (event.Arrive a) is = is
 free_at_none s n (event.Work c) is = unasked (work_refused s c) (member_of s.hist.set c) n is
-free_at_none s n (event.Job j) is = is
+free_at_none s n (event.Job j) is = idle_at_none (is_some (job_in s.back.flights j)) n is
 free_at_none s n (event.Any x) is = unasked (λ (p : Pick). None) (picked s nothing_waiting x) n is
 free_at_none s n event.Scan is = is
 free_at_none s n event.Destage is = idle_at_none (is_some (destaged s)) n is
 free_at_none s n (event.World w) is = is
+
+-- no turn of a move or of the scan comes
+pub no_background : (s : Scene) (d : Server) (e : Event) → MayCome s d e → ((j : ℕ) × (e ≡ event.Job j)) ⊎ (e ≡ event.Scan) → ⊥
+no_background s d e may (inl job) =
+    let free : refusal_on s 0 (event.Job job.0) ≡ None = ap (refusal_on s 0) (sym job.1) ∙ may.free in
+    let idle : refusal_on s 0 (event.Job job.0) ≡ Some (answer.Idle 0) =
+    ap (λ (fs : List Flight). cond (is_some (job_in fs job.0)) None (Some (answer.Idle 0))) may.fits.flightless in
+    cc
+no_background s d e may (inr scan) = subst (λ (x : Event). IsServed s.size x) scan may.served
 
 no_reason : (t u : Bool) (a b : TurnAnswer) (o : Option TurnAnswer) → option_or (option_or (cond t (Some a) None) (cond u (Some b) None)) o ≡ None
     → (u ≡ false) × (o ≡ None)

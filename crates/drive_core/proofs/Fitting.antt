@@ -28,6 +28,8 @@ use Rattle.drive_scene.specs.GoodTurn.{IsStood}
 use Rattle.drive_core.specs.Fits.{HasOps, IsCached, KnowsHistory, Fits}
 use Rattle.drive_scene.proofs.Keyed.{find-dropped_own}
 use Rattle.drive_scene.proofs.Elsewhere.{held-alike, after_half, after_end, alike-half, reached-end, alike-end}
+use Rattle.drive_scene.proofs.Uncommitted.{stays_flightless}
+use Rattle.drive_core.proofs.Flightless.{same_flights}
 use Rattle.drive_core.proofs.Elsewhere.{staged-alike, all_staged}
 use Rattle.drive_scene.specs.Half.{Half}
 use Rattle.drive_scene.proofs.Halves.{windows_then}
@@ -87,11 +89,12 @@ fits_on s c ops entries h plan d e a half fits set_is arrived_is known_is replac
           (subst (λ (o : Option Accepted). IsStaged (view (after_half s c ops entries) c) o) (sym replaces.own) own)
           (λ q other. staged-alike s (after_half s c ops entries) q (accepted_of d.commands.items q) (accepted_of e.commands.items q)
           (alike-half s c ops entries h plan half q other) (replaces.others q other) (fits.staged q));
-      apart = apart_on s (after_half s c ops entries) c fits.apart
+      apart = apart_on s (after_half s c ops entries) c fits.apart (same_flights s (beat (Work c) entries ops) fits.flightless)
           (λ q other. held-alike s (after_half s c ops entries) q (alike-half s c ops entries h plan half q other)) (λ b holds. alone b (sym held ∙ holds));
       windows = windows_then s c ops entries h plan (room_of s c d fits) half entries;
       stands = subst (λ (x : State). IsStood s.map (s.ops ++ ops) x.blocks) (sym half.reached) half.stands;
       unstuck = quiet_back s (beat (Work c) entries ops) fits.unstuck;
+      flightless = stays_flightless s (beat (Work c) entries ops) fits.flightless;
     }
 
 -- a drive without a command that ended
@@ -129,9 +132,10 @@ fits_end s c ops entries h plan reply d e half fits left has_ops cached =
           (subst (λ (o : Option Accepted). IsStaged (view (after_end s c ops entries reply) c) o) (sym left.own) gone)
           (λ q other. staged-alike s (after_end s c ops entries reply) q (accepted_of d.commands.items q) (accepted_of e.commands.items q)
           (alike-end s c ops entries h plan reply half q other) (left.others q other) (fits.staged q));
-      apart = apart_none s (after_end s c ops entries reply) c fits.apart
+      apart = apart_none s (after_end s c ops entries reply) c fits.apart (same_flights s (beat (Work c) (entries ++ Ended c reply ∷ []) ops) fits.flightless)
           (λ q other. held-alike s (after_end s c ops entries reply) q (alike-end s c ops entries h plan reply half q other)) (held_out t c gone);
       windows = windows_then s c ops entries h plan (room_of s c d fits) half (entries ++ Ended c reply ∷ []);
       stands = subst (λ (x : State). IsStood s.map (s.ops ++ ops) x.blocks) (sym reached) half.stands;
       unstuck = quiet_back s (beat (Work c) (entries ++ Ended c reply ∷ []) ops) fits.unstuck;
+      flightless = stays_flightless s (beat (Work c) (entries ++ Ended c reply ∷ []) ops) fits.flightless;
     }

@@ -44,7 +44,8 @@ use Rattle.drive_core.specs.declared.accepted.Accepted.{Accepted}
 use Rattle.drive_core.specs.declared.server.Server.{Server}
 use Rattle.drive_scene.specs.declared.answer.Ended as told_end
 use Rattle.drive_core.specs.declared.taking.Sought.{Sought}
-use Rattle.drive_scene.specs.Scene.{Scene, capacity, last_found}
+use Rattle.drive_scene.specs.Scene.{Scene, capacity}
+use Rattle.drive_scene.specs.After.{last_found}
 use Rattle.drive_scene.specs.Holds.{holder_besides}
 use Rattle.drive_scene.specs.Evidence.{lba, FoundByStages, FoundNowhere, may_use_cache}
 use Rattle.drive_scene.specs.View.{view}

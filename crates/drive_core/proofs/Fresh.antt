@@ -1,8 +1,7 @@
 -- A drive from the factory: all its blocks are zeros, and its parts fit what a history begins with.
-use Rattle.std.proofs.Common.{◌≡◌, ◌<◌, true, List, [], ◌∷◌, length, drop, Some, None, refl, sym, ap, subst, arith}
+use Rattle.std.proofs.Common.{◌≡◌, ◌<◌, true, List, [], ◌∷◌, length, drop, Some, None, refl, sym, subst, arith}
 use Rattle.std.specs.Prelude.{◌^◌}
 use Rattle.std.proofs.lemmas.List.Elements.{All-nil}
-use Rattle.platter_model.specs.TrueLog.{is_unpowered}
 use Rattle.geometry_map.specs.Size.{capacity_of}
 use Rattle.geometry_map.specs.DefectMap.{factory_map}
 use Rattle.sector_store.specs.Maps.{MayBeRecovered}
@@ -22,6 +21,7 @@ use Rattle.drive_core.specs.Accepting.{accepted_of}
 use Rattle.drive_core.specs.Starting.{KnowsStart}
 use Rattle.drive_scene.specs.Present.{IsPresentMap}
 use Rattle.drive_core.specs.Kept.{Kept}
+use Rattle.drive_core.proofs.Flightless.{apart_alone}
 use Rattle.drive_scene.specs.Laws.{IsFromFactory, FactoriesLeaveZeros}
 
 -- what is said of a store that was just made
@@ -78,10 +78,11 @@ fresh_at made d is leaves fresh set commands arrived known =
         };
         tasks = record { set = set; arrived = arrived; came = All-nil _ };
         staged = λ c. subst (λ (cs : List Accepted). IsStaged (view (scene_at_start made) c) (accepted_of cs c)) (sym commands) refl;
-        apart = λ c q b of_c of_q. absurd (let never : None ≡ Some b = of_c in cc);
+        apart = apart_alone (scene_at_start made) refl (λ c q b of_c of_q. absurd (let never : None ≡ Some b = of_c in cc));
         windows = λ c. omega arith;
         stands = zeros.stands;
         unstuck = λ n. refl;
+        flightless = refl;
       };
       numbered = omega (arith, arrived);
     }

@@ -1,14 +1,11 @@
 -- A turn that hardens a block moves the parts of a drive.
-use Rattle.std.proofs.Common.{◌≡◌, ℕ, ◌<◌, ◌^◌, true, false, List, [], ◌∷◌, ◌++◌, Option, Some, None, refl, sym, ap, ◌∙◌, subst, append-nil}
+use Rattle.std.proofs.Common.{◌≡◌, ℕ, true, List, [], ◌∷◌, ◌++◌, Option, Some, None, refl, sym, ap, ◌∙◌, subst, append-nil}
 use Rattle.std.proofs.lemmas.Bool.{true≢false}
 use Rattle.std.proofs.lemmas.List.Elements.{All-head}
 use Rattle.disk_base.specs.declared.address.Lba.{Lba}
-use Rattle.disk_base.specs.declared.block.Value.TheVariants.{Data}
 use Rattle.disk_base.specs.declared.payload.Payload.{Payload}
-use Rattle.platter_model.specs.declared.op.Op.{Op}
 use Rattle.platter_model.specs.declared.op.Op.TheVariants.{Wrote}
-use Rattle.geometry_map.specs.DefectMap.{DefectMap}
-use Rattle.sector_store.specs.State.{Contained, placed}
+use Rattle.sector_store.specs.State.{placed}
 use Rattle.sense_data.specs.declared.reply.Reply.{Reply}
 use Rattle.task_set.specs.Members.{member_of}
 use Rattle.write_cache.specs.Contents.{newest}
@@ -19,7 +16,7 @@ use Rattle.cdb_reader.specs.Plan.{next}
 use Rattle.block_machine.specs.declared.entry.Entry.{Entry}
 use Rattle.block_machine.specs.declared.entry.Entry.TheVariants.{Ended}
 use Rattle.block_machine.specs.declared.turn.Label.TheVariants.{Work}
-use Rattle.block_machine.specs.Blocks.{Blocks, without_address}
+use Rattle.block_machine.specs.Blocks.{without_address}
 use Rattle.block_machine.specs.State.{State}
 use Rattle.block_machine.specs.Steps.{entry_after}
 use Rattle.block_machine.specs.Deeds.{names_dirty}

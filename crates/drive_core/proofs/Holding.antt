@@ -1,8 +1,8 @@
 -- The block that a command needs or holds, by its need and by the history.
 use Rattle.std.proofs.Common.{◌≡◌, ℕ, zero, suc, ◌+◌, ◌<◌, ◌≤◌, Bool, true, false, not, cond, eqb, ltb, List, length, get_or, Option, Some, None, refl, sym, ap, ◌∙◌, subst, arith}
-use Rattle.std.specs.Prelude.{◌-◌, ◌&&◌, ◌||◌, find, position}
+use Rattle.std.specs.Prelude.{◌-◌, ◌||◌, find, position}
 use Rattle.std.specs.List.{range_with_len}
-use Rattle.std.specs.Option.{option_map, option_map_or, option_and_then, is_some}
+use Rattle.std.specs.Option.{option_map, option_and_then, is_some}
 use Rattle.std.proofs.lemmas.Bool.{cond-false, lt-ltb, ne_eqb}
 use Rattle.disk_base.specs.declared.address.Lba.{Lba}
 use Rattle.disk_base.specs.declared.stage.Stage.{Stage}
@@ -13,7 +13,6 @@ use Rattle.cdb_reader.specs.declared.plan.Reading as reading
 use Rattle.cdb_reader.specs.declared.plan.Writing as writing
 use Rattle.cdb_reader.specs.declared.plan.Plan.{Plan}
 use Rattle.cdb_reader.specs.declared.plan.Plan.TheVariants.{Reading, Writing}
-use Rattle.command_engine.specs.declared.need.Need.{Need}
 use Rattle.command_engine.specs.declared.need.Need.TheVariants as need
 use Rattle.command_engine.specs.declared.step.Step.{Step}
 use Rattle.command_engine.specs.declared.step.Step.TheVariants.{Trying}

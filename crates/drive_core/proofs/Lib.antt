@@ -1,3 +1,4 @@
+pub mod Flightless
 pub mod Placing
 pub mod Pushes
 pub mod GoodRuns

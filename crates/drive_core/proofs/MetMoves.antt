@@ -33,7 +33,8 @@ use Rattle.block_machine.proofs.Booleans.{and_both}
 use Rattle.drive_core.specs.declared.accepted.Accepted.{Accepted}
 use Rattle.drive_core.specs.declared.server.Server.{Server}
 use Rattle.drive_scene.specs.declared.answer.Ended as told_end
-use Rattle.drive_scene.specs.Scene.{Scene, capacity, window_after, beat}
+use Rattle.drive_scene.specs.Scene.{Scene, capacity, beat}
+use Rattle.drive_scene.specs.After.{window_after}
 use Rattle.drive_scene.specs.Holds.{held_by_plan, held_block, holder_besides}
 use Rattle.drive_scene.specs.View.{view}
 use Rattle.drive_core.specs.Commands.{IsWorking, IsCommand, IsOwnRange, IsOwnRecovery}

@@ -10,7 +10,8 @@ use Rattle.geometry_map.specs.DefectMap.{DefectMap}
 use Rattle.drive_scene.specs.declared.answer.Ended.{Ended}
 use Rattle.drive_scene.specs.declared.made.Made.{Made}
 use Rattle.drive_core.specs.declared.server.Server.{Server}
-use Rattle.drive_scene.specs.Scene.{Scene, Beat, scene_after, scene_at_start, factory_ops, beat}
+use Rattle.drive_scene.specs.Scene.{Scene, Beat, scene_at_start, factory_ops, beat}
+use Rattle.drive_scene.specs.After.{scene_after}
 use Rattle.drive_scene.specs.GoodTurn.{GoodTurn}
 use Rattle.drive_scene.specs.Run.{Run, run_of, beat_of, beats_of, behind_factory, FollowFrom, scene_of}
 use Rattle.drive_core.specs.Fits.{Fits}
@@ -39,7 +40,9 @@ kept-push made old new turns coming next t told kept moves starts ends =
     let r : Run = run_of made old.store turns coming in
     let s : Scene = scene_of (run_of made old.store turns coming) in
     let own : List Op = behind_factory made old.store.platter.ops in
-    let map_is : new.store.map ≡ old.store.map = moves.fits.store.map ∙ sym kept.fits.store.map in
+    let size_is : new.store.map.size ≡ old.store.map.size =
+    ap (λ (m : DefectMap). m.size) moves.fits.store.map
+    ∙ (moves.fits.size ∙ sym (ap (λ (m : DefectMap). m.size) kept.fits.store.map ∙ kept.fits.size)) in
     let begins : length (factory_ops made) ≤ length old.store.platter.ops =
     let grown = ops_grow (scene_at_start made) (beats_of r) in omega (arith, grown, ap length kept.fits.store.ops) in
     let behind : behind_factory made (old.store.platter.ops ++ moves.ops) ≡ own ++ moves.ops =
@@ -62,7 +65,7 @@ kept-push made old new turns coming next t told kept moves starts ends =
     let follows = subst (Follows made (turns ++ t ∷ []) new) (sym behind) pushed in
     let Whole : List Op → Type 0 = λ all_ops. Kept (record { made = made; turns = turns ++ t ∷ []; ops = all_ops; coming = next }) new in
     let whole : Whole (old.store.platter.ops ++ moves.ops) = record {
-      size = ap (λ (m : DefectMap). m.size) map_is ∙ kept.size;
+      size = size_is ∙ kept.size;
       follow = follows.follow;
       good = follows.good;
       fits = follows.fits;

@@ -30,7 +30,8 @@ use Rattle.block_machine.specs.State.{Duty, owed_by}
 use Rattle.block_machine.specs.Steps as steps
 use Rattle.block_machine.proofs.Booleans.{and_both}
 use Rattle.drive_core.specs.declared.accepted.Accepted.{Accepted}
-use Rattle.drive_scene.specs.Scene.{Scene, last_found, past_plain_read, window_after, beat}
+use Rattle.drive_scene.specs.Scene.{Scene, beat}
+use Rattle.drive_scene.specs.After.{last_found, past_plain_read, window_after}
 use Rattle.drive_scene.specs.Holds.{held_by_plan, held_block}
 use Rattle.geometry_map.specs.DefectMap.{place_of}
 use Rattle.sector_store.specs.Shapes.{try_of}

@@ -24,7 +24,8 @@ use Rattle.drive_scene.specs.declared.answer.Ended as told_end
 use Rattle.drive_scene.specs.Ending.{ended_in, ended_of_member}
 use Rattle.drive_scene.specs.Evidence.{IsEndShown, Shows, lba}
 use Rattle.drive_scene.specs.GoodTurn.{are_in_order, are_on, is_entry_of, is_on}
-use Rattle.drive_scene.specs.Scene.{beat, Beat, Scene, capacity, scene_after}
+use Rattle.drive_scene.specs.Scene.{beat, Beat, Scene, capacity}
+use Rattle.drive_scene.specs.After.{scene_after}
 use Rattle.drive_scene.specs.Laws.{StillTurnsAreGood}
 use Rattle.drive_scene.proofs.Tables.{put_at-own, put_at-other}
 use Rattle.drive_scene.proofs.Keyed.{find-dropped_other}
@@ -37,6 +38,7 @@ use Rattle.drive_core.specs.Fits.{Fits}
 use Rattle.drive_core.specs.Moves.{Moves}
 use Rattle.drive_core.proofs.Unmoved.{none_added, standing}
 use Rattle.drive_core.proofs.StartTurns.{IsBegun, ended_scene, find-started_own, find-started_other, fits_ended, start_lawful, started_state, told_as_in, windows}
+use Rattle.drive_core.proofs.Flightless.{waits_alone}
 
 -- its entries, and the history behind what it does
 abbrev pub deed_entries : ℕ → Entry → Reply → List Entry
@@ -132,6 +134,7 @@ module _ (s : Scene) (d e : Server) (c : ℕ) (did : Entry) (reply : Reply) {set
           on_one = deed.quiet.5;
           own = and_both _ _ (eq-eqb c c refl) (and_both _ _ deed.own (and_both _ _ (eq-eqb c c refl) refl));
           order = deed.quiet.6;
+          waits = waits_alone s c is.fits.flightless;
           windows = windows s d e c is (deed_entries c did reply);
           unchanged = ap (λ (x : Scene). x.hist.blocks) deed.quiet.1;
         });

@@ -53,7 +53,8 @@ use Rattle.drive_scene.specs.Ending.{ended_of_member}
 use Rattle.drive_scene.specs.Evidence.{IsEndShown, page_of}
 use Rattle.drive_core.specs.Served.{is_served, is_served_plan}
 use Rattle.command_engine.specs.Need.{end_of}
-use Rattle.drive_scene.specs.Scene.{Scene, capacity, scene_after, window_after, background_after, beat}
+use Rattle.drive_scene.specs.Scene.{Scene, capacity, beat}
+use Rattle.drive_scene.specs.After.{scene_after, window_after, background_after}
 use Rattle.drive_scene.proofs.DestageTurns.{quiet_back}
 use Rattle.drive_scene.specs.Able.{refusal_of_work, held_by_other, work_refused}
 use Rattle.drive_scene.specs.Holds.{held_block, held_by_plan, needed_block}
@@ -66,6 +67,8 @@ use Rattle.drive_core.specs.Moves.{Moves, MayWork}
 use Rattle.drive_scene.proofs.Tables.{put_at-own, put_at-other}
 use Rattle.drive_scene.proofs.Keyed.{find-dropped_own, find-dropped_other}
 use Rattle.drive_scene.proofs.Elsewhere.{IsAlike, held-alike}
+use Rattle.drive_scene.proofs.Uncommitted.{stays_flightless}
+use Rattle.drive_core.proofs.Flightless.{same_flights, waits_alone}
 use Rattle.drive_core.proofs.Elsewhere.{staged-alike, all_staged}
 use Rattle.drive_scene.proofs.Apart.{held_out, apart_none}
 use Rattle.drive_scene.proofs.Halves.{end_lawful, over_owes}
@@ -269,10 +272,12 @@ module _ (s : Scene) (d e : Server) (c : ℕ) {settings : Settings} {waiting : W
             (subst (λ (o : Option Accepted). IsStaged (view t c) o) (sym drops.own) gone)
             (λ q other. staged-alike s t q (accepted_of d.commands.items q) (accepted_of e.commands.items q) (alike q other)
             (drops.others q other) (is.fits.staged q));
-        apart = apart_none s t c is.fits.apart (λ q other. held-alike s t q (alike q other)) (held_out t c gone);
+        apart = apart_none s t c is.fits.apart (same_flights s (beat (Work c) entries []) is.fits.flightless)
+            (λ q other. held-alike s t q (alike q other)) (held_out t c gone);
         windows = short;
         stands = still_stands s d e is.fits is.store;
         unstuck = quiet_back s (beat (Work c) entries []) is.fits.unstuck;
+        flightless = stays_flightless s (beat (Work c) entries []) is.fits.flightless;
       }
 
   -- the command that ended is told as the set had it
@@ -319,6 +324,7 @@ module _ (s : Scene) (d e : Server) (c : ℕ) (is : IsStartOf s d e c) (still : 
           on_one = refl;
           own = and_both _ _ (eq-eqb c c refl) (and_both _ _ (eq-eqb c c refl) refl);
           order = refl;
+          waits = waits_alone s c is.fits.flightless;
           windows = windows s d e c is (Started c ∷ Ended c reply ∷ []);
           unchanged = refl;
         });
@@ -387,6 +393,7 @@ module _ (s : Scene) (d e : Server) (c : ℕ) (is : IsStartOf s d e c) (still : 
           on_one = refl;
           own = and_both _ _ (eq-eqb c c refl) refl;
           order = refl;
+          waits = waits_alone s c is.fits.flightless;
           windows = windows s d e c is (Started c ∷ []);
           unchanged = refl;
         });
@@ -404,10 +411,12 @@ module _ (s : Scene) (d e : Server) (c : ℕ) (is : IsStartOf s d e c) (still : 
               (subst (λ (o : Option Accepted). IsStaged (view t c) o) (sym replaces.own) own)
               (λ q other. staged-alike s t q (accepted_of d.commands.items q) (accepted_of e.commands.items q) (alike q other)
               (replaces.others q other) (is.fits.staged q));
-          apart = apart_none s t c is.fits.apart (λ q other. held-alike s t q (alike q other)) held;
+          apart = apart_none s t c is.fits.apart (same_flights s (beat (Work c) (Started c ∷ []) []) is.fits.flightless)
+              (λ q other. held-alike s t q (alike q other)) held;
           windows = windows s d e c is (Started c ∷ []);
           stands = still_stands s d e is.fits is.store;
           unstuck = quiet_back s (beat (Work c) (Started c ∷ []) []) is.fits.unstuck;
+          flightless = stays_flightless s (beat (Work c) (Started c ∷ []) []) is.fits.flightless;
         };
         counted = omega (arith, is.arrived);
         ended = refl;

@@ -46,7 +46,8 @@ use Rattle.block_machine.specs.Entries.{ends_as_told}
 use Rattle.drive_core.specs.declared.accepted.Accepted.{Accepted}
 use Rattle.drive_core.specs.declared.server.Server.{Server}
 use Rattle.drive_scene.specs.declared.answer.Ended as told_end
-use Rattle.drive_scene.specs.Scene.{Scene, capacity, last_found, beat}
+use Rattle.drive_scene.specs.Scene.{Scene, capacity, beat}
+use Rattle.drive_scene.specs.After.{last_found}
 use Rattle.drive_scene.specs.Holds.{held_by_plan, holder_besides}
 use Rattle.drive_scene.specs.Evidence.{lba, IsEndShown, IsGot, IsNextTry, FailedBelow}
 use Rattle.drive_scene.specs.View.{view}

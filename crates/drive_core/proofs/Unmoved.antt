@@ -11,7 +11,8 @@ use Rattle.block_machine.specs.declared.turn.Label.TheVariants.{Arrive}
 use Rattle.block_machine.specs.Steps.{begun, entry_after}
 use Rattle.block_machine.specs.Turns.{entries_lawful, blocks_lawful}
 use Rattle.drive_core.specs.declared.server.Server.{Server}
-use Rattle.drive_scene.specs.Scene.{Scene, capacity, scene_after, beat}
+use Rattle.drive_scene.specs.Scene.{Scene, capacity, beat}
+use Rattle.drive_scene.specs.After.{scene_after}
 use Rattle.drive_scene.specs.Evidence.{lba, Shows}
 use Rattle.drive_scene.specs.GoodTurn.{GoodTurn, IsStood, are_on, is_on, are_in_order}
 use Rattle.drive_scene.specs.Present.{IsPresentMap}
@@ -63,6 +64,7 @@ module _ (s : Scene) (d e : Server) (fits : Fits s d) (store_is : e.store ≡ d.
         on_one = on_one;
         own = tt;
         order = order;
+        waits = refl;
         windows = windows;
         unchanged = blocks_are;
       })

@@ -21,6 +21,7 @@ use Rattle.drive_core.specs.declared.server.Server.{Server}
 use Rattle.drive_core.specs.Accepting.{accepted_of}
 use Rattle.drive_core.specs.Fits.{Fits}
 use Rattle.drive_scene.specs.Half.{IsReady}
+use Rattle.drive_core.proofs.Flightless.{waits_alone}
 
 -- a window is empty where no stage failed
 pub empty_tried : (n k : ℕ) → n ≡ 2 * k → eqb n 0 ≡ eqb k 0
@@ -81,4 +82,9 @@ window_in v (Some a) command is = window_under_way v command.member a a.work com
 
 -- each has room for one turn more
 pub room_of : (s : Scene) (c : ℕ) (d : Server) → Fits s d → IsReady s c
-room_of s c d fits = record { powered = fits.store.powered; own = window_in (view s c) (accepted_of d.commands.items c) (fits.staged c); all = fits.windows }
+room_of s c d fits = record {
+  powered = fits.store.powered;
+  own = window_in (view s c) (accepted_of d.commands.items c) (fits.staged c);
+  all = fits.windows;
+  waits = waits_alone s c fits.flightless;
+}

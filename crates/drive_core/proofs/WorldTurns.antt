@@ -23,7 +23,8 @@ use Rattle.block_machine.specs.Scan.{Scan, minutes_at_most, scan_after}
 use Rattle.history_replay.specs.declared.known.Known.{Known}
 use Rattle.drive_core.specs.declared.accepted.Accepted.{Accepted}
 use Rattle.drive_core.specs.declared.server.Server.{Server}
-use Rattle.drive_scene.specs.Scene.{Scene, scene_after, background_after, beat}
+use Rattle.drive_scene.specs.Scene.{Scene, beat}
+use Rattle.drive_scene.specs.After.{scene_after, background_after}
 use Rattle.drive_scene.proofs.DestageTurns.{quiet_back}
 use Rattle.drive_core.specs.Accepting.{accepted_of}
 use Rattle.drive_scene.specs.GoodTurn.{IsStood, IsAllowed}
@@ -33,6 +34,8 @@ use Rattle.drive_core.specs.Fits.{Fits, HasOps, IsCached, KnowsHistory}
 use Rattle.drive_core.specs.Moves.{Moves}
 use Rattle.drive_core.specs.Served.{IsServedWorld}
 use Rattle.drive_scene.proofs.Tries.{no_strays-before}
+use Rattle.drive_scene.proofs.Uncommitted.{stays_flightless}
+use Rattle.drive_core.proofs.Flightless.{apart_alone}
 use Rattle.drive_core.proofs.Elsewhere.{staged-alike}
 use Rattle.drive_core.proofs.Parts.{IsGotOnly, cached_got, quiet_got}
 use Rattle.drive_core.proofs.Fitting.{known-quiet}
@@ -70,10 +73,11 @@ untouched s d e w ops entries scan fits set_is commands_is arrived_is store cach
   staged = λ q. staged-alike s (with_world s w ops entries scan) q (accepted_of d.commands.items q) (accepted_of e.commands.items q)
       (record { size = refl; map = refl; member = refl; duty = refl; window = refl; settings = refl; recovered = refl; dirty = λ n holds. refl })
       (ap (λ (xs : List Accepted). accepted_of xs q) commands_is) (fits.staged q);
-  apart = fits.apart;
+  apart = apart_alone (with_world s w ops entries scan) (stays_flightless s (beat (label.World w) entries ops) fits.flightless) fits.apart.commands;
   windows = fits.windows;
   stands = stands;
   unstuck = quiet_back s (beat (label.World w) entries ops) fits.unstuck;
+  flightless = stays_flightless s (beat (label.World w) entries ops) fits.flightless;
 }
 
 pub standing_now : (s : Scene) (d : Server) → Fits s d → IsStanding s
@@ -159,6 +163,7 @@ minutes_pass s d e n entries still fits store_is set_is commands_is arrived_is k
         on_one = refl;
         own = tt;
         order = refl;
+        waits = refl;
         windows = fits.windows;
         unchanged = refl;
       });

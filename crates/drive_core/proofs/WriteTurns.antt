@@ -47,7 +47,8 @@ use Rattle.block_machine.proofs.Booleans.{and_both}
 use Rattle.drive_core.specs.declared.accepted.Accepted.{Accepted}
 use Rattle.drive_core.specs.declared.server.Server.{Server}
 use Rattle.drive_scene.specs.declared.answer.Ended as told_end
-use Rattle.drive_scene.specs.Scene.{Scene, capacity, last_found, window_after, opens_window, recovered_by, windows_with, beat}
+use Rattle.drive_scene.specs.Scene.{Scene, capacity, beat}
+use Rattle.drive_scene.specs.After.{last_found, window_after, opens_window, recovered_by, windows_with}
 use Rattle.drive_scene.specs.Holds.{held_by_plan, held_block}
 use Rattle.drive_scene.specs.Evidence.{lba, IsEndShown}
 use Rattle.drive_scene.specs.Ending.{ended_of_member, ended_in}

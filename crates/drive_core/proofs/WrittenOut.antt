@@ -1,5 +1,5 @@
 -- What a dirty block that is written to its place leaves of the store, whoever hardens it.
-use Rattle.std.proofs.Common.{◌≡◌, ◌≢◌, ℕ, ◌<◌, false, List, [], ◌∷◌, ◌++◌, Some, refl, sym, ap, ◌∙◌, subst}
+use Rattle.std.proofs.Common.{◌≡◌, ℕ, ◌<◌, false, List, [], ◌∷◌, ◌++◌, Some, sym, ap, ◌∙◌, subst}
 use Rattle.std.proofs.lemmas.List.Sums.{fold-append}
 use Rattle.disk_base.specs.declared.address.Lba.{Lba}
 use Rattle.disk_base.specs.declared.address.Psn.{Psn}

@@ -19,7 +19,7 @@ use Rattle.command_engine.specs.Need.{end_of}
 use Rattle.command_engine.specs.Ending.{recovered_error}
 use Rattle.block_machine.specs.Entries.{recovery_within}
 use Rattle.drive_core.specs.declared.accepted.Accepted.{Accepted}
-use Rattle.drive_scene.specs.Scene.{last_found}
+use Rattle.drive_scene.specs.After.{last_found}
 use Rattle.drive_scene.specs.Evidence.{lba, FailedBelow}
 use Rattle.drive_core.specs.Served.{is_served, is_served_plan}
 use Rattle.drive_scene.specs.View.{View}

@@ -1,5 +1,5 @@
 -- The parts of a drive are what its turns have come to.
-use Rattle.std.specs.Prelude.{◌≡◌, ℕ, ◌≤◌, ◌<◌, false, true, List, length, map, Some, None, All}
+use Rattle.std.specs.Prelude.{◌≡◌, ℕ, ◌≤◌, ◌<◌, false, true, List, [], length, map, Some, None, All}
 use Rattle.std.specs.Map.{keys_of}
 use Rattle.std.specs.Option.{option_map}
 use Rattle.disk_base.specs.declared.address.Lba.{Lba}
@@ -82,3 +82,5 @@ pub record Fits (s : Scene) (d : Server) : Type 0 where
   pub stands : IsStood s.map s.ops s.hist.blocks
   -- no destage failed
   pub unstuck : (b : ℕ) → s.back.stuck b ≡ false
+  -- no move is in flight: nothing opens one yet
+  pub flightless : s.back.flights ≡ []

@@ -2,7 +2,8 @@
 use Rattle.std.specs.Prelude.{◌≡◌, ◌≤◌, length}
 use Rattle.disk_base.specs.Along.{Along}
 use Rattle.drive_core.specs.declared.server.Server.{Server}
-use Rattle.drive_scene.specs.Scene.{scene_at_start, scene_after}
+use Rattle.drive_scene.specs.Scene.{scene_at_start}
+use Rattle.drive_scene.specs.After.{scene_after}
 use Rattle.drive_scene.specs.GoodTurn.{GoodTurn}
 use Rattle.drive_scene.specs.Run.{Run, beats_of, behind_factory, FollowFrom, scene_of}
 use Rattle.drive_core.specs.Fits.{Fits}

@@ -8,7 +8,8 @@ use Rattle.block_machine.specs.declared.turn.Label.{Label}
 use Rattle.drive_scene.specs.declared.answer.Ended as ended
 use Rattle.drive_core.specs.declared.server.Server.{Server}
 use Rattle.drive_core.specs.Accepting.{Drops}
-use Rattle.drive_scene.specs.Scene.{Scene, scene_after, beat}
+use Rattle.drive_scene.specs.Scene.{Scene, beat}
+use Rattle.drive_scene.specs.After.{scene_after}
 use Rattle.drive_scene.specs.GoodTurn.{GoodTurn}
 use Rattle.drive_scene.specs.Ending.{ended_in}
 use Rattle.drive_core.specs.Fits.{Fits}

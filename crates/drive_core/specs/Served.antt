@@ -51,6 +51,7 @@ IsServedArrival (Function i what) = Unit {0}
 abbrev pub IsServed : Size → Event → Type 0
 IsServed size (event.Arrive a) = IsServedArrival a
 IsServed size (event.Work c) = Unit {0}
+IsServed size (event.Job j) = Unit {0}
 IsServed size (event.Any x) = Unit {0}
 IsServed size event.Destage = Unit {0}
 IsServed size (event.World w) = IsServedWorld size w

@@ -131,19 +131,26 @@ impl Drive {
         }
         match event {
             Event::Work(c) => able::refusal_of_work(&self.server, *c, self.coming),
+            // No move is in flight yet.
+            Event::Job(_) => Some(self.idle()),
             Event::Any(x) => match able::any(&self.server, *x) {
                 Some(_) => None,
-                None => Some(TurnAnswer::Idle {
-                    coming: self.coming,
-                }),
+                None => Some(self.idle()),
             },
             Event::Destage => match able::destaged(&self.server) {
                 Some(_) => None,
-                None => Some(TurnAnswer::Idle {
-                    coming: self.coming,
-                }),
+                None => Some(self.idle()),
             },
             _ => None,
+        }
+    }
+
+    // There is nothing to do for an event now.
+    fn idle(&self) -> TurnAnswer
+        ensures { result ≡ TurnAnswer.Idle self.now.coming }
+    {
+        TurnAnswer::Idle {
+            coming: self.coming,
         }
     }
 

@@ -258,6 +258,15 @@ fn nothing_to_destage(rt: HostRuntime) -> Result<(), Fail> {
     Ok(())
 }
 
+#[test]
+fn a_move_that_is_not_in_flight(rt: HostRuntime) -> Result<(), Fail> {
+    let (mut drive, _) = damaged(rt.alloc())?;
+    let answer = drive.turn(Event::Job(1))?;
+    assert_eq!(rt; answer, TurnAnswer::Idle { coming: 0 });
+    assert_eq!(rt; drive.turns().len(), 1);
+    Ok(())
+}
+
 // A destage writes the dirty block out, which then is clean.
 #[test]
 fn a_destage(rt: HostRuntime) -> Result<(), Fail> {

@@ -10,4 +10,4 @@ returns-clause-picked c s fits =
     let full : length c.able_commands-commands.result.items ≢ 0 = eqb-false _ 0 (sym c.is_empty.ensures ∙ c.if-is_empty.false) in
     let some : 0 < c.len.result = omega (arith, full, c.len.ensures.value) in
     ap (λ (xs : List ℕ). Some (Work (get_or xs (c.args.x % c.len.result) 0))) c.deref.ensures.0
-    ∙ any-picked s c.args.x c.len.result c.able_commands-commands.result.items (c.able_commands-commands.ensures.able s fits) c.len.ensures.value some (omega (arith, some))
+    ∙ any-picked s c.args.x c.len.result c.able_commands-commands.result.items fits.flightless (c.able_commands-commands.ensures.able s fits) c.len.ensures.value some (omega (arith, some))

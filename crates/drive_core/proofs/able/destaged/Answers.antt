@@ -1,9 +1,7 @@
-use Rattle.std.proofs.Common.{◌≡◌, ◌∙◌, ap, List}
+use Rattle.std.proofs.Common.{◌∙◌, ap}
 use Rattle.std.specs.List.{list_any}
-use Rattle.write_cache.specs.Contents.{Contents, is_at, oldest_but}
-use Rattle.drive_core.specs.declared.able.Claim.{Claim}
+use Rattle.write_cache.specs.Contents.{is_at, oldest_but}
 use Rattle.drive_core.specs.Claims.{is_held_by}
-use Rattle.disk_base.specs.declared.address.Lba.{Lba}
 use Rattle.drive_core.proofs.Destaged.{destaged-is}
 use Rattle.drive_core.proofs.able.destaged.Goals as goal
 

@@ -1,7 +1,5 @@
-use Rattle.std.proofs.Common.{◌≡◌, ◌∙◌, ap, arith, Some}
-use Rattle.drive_scene.specs.Scene.{Scene}
-use Rattle.drive_core.specs.Fits.{Fits}
-use Rattle.drive_scene.proofs.Walking.{Counts, arrival-picked, behind-picked}
+use Rattle.std.proofs.Common.{◌∙◌, ap, arith, Some}
+use Rattle.drive_scene.proofs.Walking.{arrival-picked, behind-picked}
 use Rattle.drive_core.proofs.able.picked.Goals as goal
 
 pub returns-then-k-len : goal.returns-then-k-len
@@ -9,7 +7,7 @@ returns-then-k-len c s fits =
     arrival-picked s c.args.waiting.now c.args.x c.arriving-arrivals.result.items c.able_commands-commands.result.items c.deref.result.now
     c.len.result c.len-2.result c.able_destages-destages.result c.len-3.result c.index-deref-k.result
     (record {
-      among = record { arrivals = c.arriving-arrivals.ensures; commands = c.able_commands-commands.ensures.able s fits };
+      among = record { flightless = fits.flightless; arrivals = c.arriving-arrivals.ensures; commands = c.able_commands-commands.ensures.able s fits };
       arrivals = c.len.ensures.value;
       commands = c.len-2.ensures.value;
       destages = c.able_destages-destages.ensures.count s fits;
@@ -22,7 +20,7 @@ returns-else-k-len c s fits =
     ∙ behind-picked s c.args.waiting.now c.args.x c.arriving-arrivals.result.items c.able_commands-commands.result.items c.as_slice.result.now
     c.len.result c.len-2.result c.able_destages-destages.result c.len-else-k-len.result
     (record {
-      among = record { arrivals = c.arriving-arrivals.ensures; commands = c.able_commands-commands.ensures.able s fits };
+      among = record { flightless = fits.flightless; arrivals = c.arriving-arrivals.ensures; commands = c.able_commands-commands.ensures.able s fits };
       arrivals = c.len.ensures.value;
       commands = c.len-2.ensures.value;
       destages = c.able_destages-destages.ensures.count s fits;

@@ -1,4 +1,3 @@
-use Rattle.std.proofs.Common.{◌≡◌, ◌<◌, ap, sym, ◌∙◌, length}
 use Rattle.drive_core.proofs.Claimed.{next-placed}
 use Rattle.drive_core.proofs.able.place_from.Goals as goal
 

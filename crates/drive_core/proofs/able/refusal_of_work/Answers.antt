@@ -11,7 +11,7 @@ claim_at-claim-requires c = c.place.ensures ∙ ap (λ (xs : List Accepted). pos
 pub returns-in-Some : goal.returns-in-Some
 returns-in-Some c s fits =
     refused-by-claims s c.args.server.now.set c.args.c c.args.coming c.in-Some.member c.claim_at-claim.result c.as_slice-in-Some.result.now c.held_back.result
-    fits.tasks.set (sym c.member.ensures ∙ c.in-Some.is) c.if-member.true (c.claim_at-claim.ensures s fits)
+    fits.flightless fits.tasks.set (sym c.member.ensures ∙ c.in-Some.is) c.if-member.true (c.claim_at-claim.ensures s fits)
     (gathered s c.claims-claims.result.items c.as_slice.result.now c.holders-holders.result.items c.as_slice-in-Some.result.now
     (c.claims-claims.ensures.claims s fits) c.as_slice.ensures.value c.holders-holders.ensures c.as_slice-in-Some.ensures.value)
     c.held_back.ensures

@@ -1,4 +1,3 @@
-use Rattle.std.proofs.Common.{◌≡◌}
 use Rattle.drive_core.proofs.Destages.{next_found}
 use Rattle.drive_core.proofs.destaging.destage.Goals as goal
 

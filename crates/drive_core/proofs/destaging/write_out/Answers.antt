@@ -1,4 +1,4 @@
-use Rattle.std.proofs.Common.{◌≡◌, ◌∙◌, ◌++◌, ◌∷◌, [], ℕ, List, Option, IsSome, Some, refl, ap, sym, subst}
+use Rattle.std.proofs.Common.{◌≡◌, ◌∙◌, ◌++◌, ◌∷◌, [], ℕ, List, Option, IsSome, refl, ap, sym, subst}
 use Rattle.block_machine.specs.declared.entry.Entry.TheVariants.{Harden}
 use Rattle.block_machine.specs.declared.entry.Who.TheVariants.{Drive}
 use Rattle.sector_store.specs.declared.answer.StoreAnswer.TheVariants.{Done}

@@ -4,6 +4,7 @@ use Rattle.drive_scene.specs.declared.event.Event.{Event}
 use Rattle.drive_scene.specs.declared.event.Event.TheVariants as event
 use Rattle.drive_core.specs.Making.{MayCome, entries_at_most}
 use Rattle.drive_core.proofs.ArrivalTurns.{room_of_four}
+use Rattle.drive_core.proofs.DriveTurns.{no_background}
 use Rattle.drive_core.proofs.turning.make_turn.Goals as goal
 
 pub arrive-requires-clause-may : goal.arrive-requires-clause-may
@@ -33,3 +34,6 @@ make_work_turn-requires-in-Some-clause-entry_room c = room_of_four c.args.event 
 
 pub destage-requires-clause-may : goal.destage-requires-clause-may
 destage-requires-clause-may c = (c.requires.may.0, subst (λ (e : Event). MayCome c.requires.may.0 c.args.server.now e) c.in-Destage.is c.requires.may.1)
+
+pub unreachable-requires-in-Job : goal.unreachable-requires-in-Job
+unreachable-requires-in-Job c = no_background c.requires.may.0 c.args.server.now c.args.event c.requires.may.1 c.in-Job.is
