@@ -1,4 +1,5 @@
 mod Examples
 pub mod OrderLaw
+mod Premises
 pub mod Refusals
 pub mod UnreadLaw

@@ -15,7 +15,6 @@ use Rattle.cdb_reader.specs.declared.plan.Deed.TheVariants as deed
 use Rattle.cdb_reader.specs.Plan.{next, reading_from, after_written, after_move, blocks_left}
 use Rattle.cdb_reader.specs.Replies.{good, unrecovered_read, medium_error, same_sense, same_reply, is_write_error, is_recovered, no_spare}
 use Rattle.cdb_reader.specs.Request.{Request, ReadDefectData}
-use Rattle.cdb_reader.specs.Request as request
 use Rattle.block_machine.specs.declared.entry.Who.TheVariants.{Command, Drive}
 use Rattle.block_machine.specs.declared.entry.Entry.{Entry}
 use Rattle.block_machine.specs.declared.entry.Entry.TheVariants.{Get, Put, Harden, Passed, Page, Ended, Mode, Arrived, Started, Aborted, Cut}

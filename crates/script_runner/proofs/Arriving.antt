@@ -24,7 +24,8 @@ use Rattle.block_machine.specs.Turns.{is_answered, are_aborted}
 use Rattle.block_machine.proofs.Booleans.{both}
 use Rattle.drive_scene.specs.declared.event.Arrival.{Arrival as Sent}
 use Rattle.drive_scene.specs.declared.event.Arrival.TheVariants.{Command, Function}
-use Rattle.drive_scene.specs.Scene.{Scene, capacity, scene_after, with_arrival}
+use Rattle.drive_scene.specs.Scene.{Scene, capacity}
+use Rattle.drive_scene.specs.After.{scene_after, with_arrival}
 use Rattle.script_runner.specs.Arrivals.{Sends, arriving}
 use Rattle.script_runner.specs.Wanted.{Wanted}
 use Rattle.script_runner.specs.Phasing.{TakesArrival}

@@ -30,17 +30,20 @@ use Rattle.block_machine.specs.Steps.{begun, entries_after}
 use Rattle.block_machine.proofs.Alongs.{along_second}
 use Rattle.block_machine.proofs.Booleans.{both}
 use Rattle.block_machine.proofs.Projection.{blocks_of_entries, blocks_begun}
-use Rattle.drive_scene.specs.Scene.{Scene, Beat, capacity, scene_at_start, scene_after, opens_window, window_after, with_arrival, windows_by, windows_with}
+use Rattle.drive_scene.specs.Scene.{Scene, Beat, capacity, scene_at_start}
+use Rattle.drive_scene.specs.After.{scene_after, opens_window, window_after, with_arrival, windows_by, windows_with}
 use Rattle.drive_scene.specs.GoodTurn.{GoodTurn}
 use Rattle.drive_scene.specs.Evidence.{FoundByStages, window_now, settings_now}
 use Rattle.sector_store.specs.Shapes.{try_of}
 use Rattle.drive_scene.specs.Laws.{MapsStay}
 use Rattle.drive_scene.specs.Run.{beats_of}
-use Rattle.script_runner.specs.Laws.{BadReadsAreShown}
+use Rattle.script_runner.specs.Laws.{OfWholeRunsWithoutStrays, BadReadsAreShown}
 use Rattle.script_runner.specs.Run.{drive_run}
 use Rattle.script_runner.specs.Script.{made_for}
+use Rattle.drive_scene.proofs.Uncommitted.{stays_flightless}
+use Rattle.script_runner.proofs.Unmoved.{windows_then}
 use Rattle.script_runner.proofs.OwnData.{IsOwn, WritesOwn, own_meant, own_written}
-use Rattle.script_runner.proofs.RunLaws.{ops_begin, none_before, along_at, gets_are_shown}
+use Rattle.script_runner.proofs.RunLaws.{ops_begin, none_before, along_at, dirty_before, gets_are_shown}
 
 -- none of a sum of none
 no_sum : (stray : Bool) (rest : ℕ) → (if stray then 1 else 0) + rest ≡ 0 → (stray ≡ false) × (rest ≡ 0)
@@ -135,9 +138,12 @@ turn_within (Work d) windows ops t within c x h =
 turn_within (Arrive i) windows ops t within c x h = Contains-append_left ops t.ops x (arrivals_within t.entries windows ops within c x h)
 turn_within other windows ops t within c x h = Contains-append_left ops t.ops x (within c x h)
 
-all_within : (s : Scene) (turns : List Beat) → AreWithin s.windows s.ops → AreWithin (fold scene_after s turns).windows (fold scene_after s turns).ops
-all_within s [] within = within
-all_within s (t ∷ turns) within = all_within (scene_after s t) turns (turn_within t.label s.windows s.ops t within)
+all_within : (s : Scene) (turns : List Beat) → s.back.flights ≡ [] → AreWithin s.windows s.ops
+    → AreWithin (fold scene_after s turns).windows (fold scene_after s turns).ops
+all_within s [] none within = within
+all_within s (t ∷ turns) none within =
+    all_within (scene_after s t) turns (stays_flightless s t none)
+    (subst (λ (windows : ℕ → List Op). AreWithin windows (s.ops ++ t.ops)) (sym (windows_then s t none)) (turn_within t.label s.windows s.ops t within))
 
 -- those with the operations of a turn, whole
 now_within : (label : Label) (windows : ℕ → List Op) (ops own : List Op) → AreWithin windows ops → AreWithin (windows_with label windows own) (ops ++ own)
@@ -157,7 +163,7 @@ lost_is_clean n blocks earlier rest c b lawful =
     let of_block = both _ (may_get (fold blocks_after blocks earlier b.0) Lost) here.0 in
     (ltb-true b.0 n of_block.0, not-true (is_dirty (fold blocks_after blocks earlier b.0)) of_block.1)
 
-pub bad_reads_are_shown : MapsStay → BlocksHaveOwnSectors → BlocksLieOnUserSectors → BadReadsAreShown
+pub bad_reads_are_shown : MapsStay → BlocksHaveOwnSectors → BlocksLieOnUserSectors → OfWholeRunsWithoutStrays BadReadsAreShown
 unfolding AreWithin
 bad_reads_are_shown stay apart on_user order script turns ops good none c b get =
     let before : List Beat = get.before in
@@ -180,14 +186,14 @@ bad_reads_are_shown stay apart on_user order script turns ops good none c b get 
     blocks_of_entries (capacity s) t.label (begun s.hist t.label) earlier ∙ ap (λ (bs : Blocks). fold blocks_after bs earlier) (blocks_begun s.hist t.label) in
     let undirty : is_dirty ((entries_after (capacity s) t.label (begun s.hist t.label) earlier).blocks b.0) ≡ false =
     ap (λ (bs : Blocks). is_dirty (bs b.0)) same ∙ clean.1 in
-    let map_is : (fold scene_after start before).map ≡ factory_map good.size script.primary.items = (stay start before).0 in
+    let map_is : (fold scene_after start before).map ≡ factory_map good.size script.primary.items = ((stay start before).0 refl).0 in
     let place : place_of (factory_map good.size script.primary.items) b ≡ place_of s.map b = ap (λ (m : DefectMap). place_of m b) (sym map_is) in
     let below : b.0 < capacity_of good.size = subst (λ (z : Size). b.0 < capacity_of z) (stay start before).1 clean.0 in
     let written : All (WritesOwn b (place_of s.map b)) ops =
     subst (λ (p : Psn). All (WritesOwn b p) ops) place
     (subst (All (WritesOwn b (place_of (factory_map good.size script.primary.items) b))) good.history.own
     (own_written apart on_user (made_for good.size script) (beats_of (drive_run good.size script turns ops)) good.history.valid good.history.good b below)) in
-    let within = all_within start before (λ q x h. none_among start.ops x h) in
+    let within = all_within start before refl (λ q x h. none_among start.ops x h) in
     ⊎_elim (λ failed. failed)
     (λ (found : FoundByStages (window_now s t c) (place_of s.map b) (settings_now s t c).retry b Lost).
     let try = Tried found.2 (place_of s.map b) found.3 (Some found.4) in
@@ -196,4 +202,4 @@ bad_reads_are_shown stay apart on_user order script turns ops good none c b get 
     absurd (none_lost ops found.2 (place_of s.map b) found.3 found.4 b none written
     (subst (λ (xs : List Op). Contains xs try) (sym whole)
     (Contains-append_left (s.ops ++ t.ops) more.0 try (now_within t.label s.windows s.ops t.ops within c try there))) found.8))
-    (gets_are_shown order script turns ops good c b Lost get undirty)
+    (gets_are_shown order script turns ops good c b Lost get (sym (dirty_before get b.0) ∙ undirty))

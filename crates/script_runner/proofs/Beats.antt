@@ -7,7 +7,8 @@ use Rattle.disk_base.specs.Along.{Along}
 use Rattle.platter_model.specs.declared.op.Op.{Op}
 use Rattle.block_machine.specs.declared.turn.Turn.{Turn}
 use Rattle.drive_scene.specs.declared.event.Event.{Event}
-use Rattle.drive_scene.specs.Scene.{Beat, scene_after, scene_at_start, factory_ops}
+use Rattle.drive_scene.specs.Scene.{Beat, scene_at_start, factory_ops}
+use Rattle.drive_scene.specs.After.{scene_after}
 use Rattle.drive_scene.specs.GoodTurn.{GoodTurn}
 use Rattle.drive_scene.specs.declared.made.Made.{Made}
 use Rattle.drive_scene.specs.Run.{Run, FollowFrom, beat_of, behind_factory, scene_of, beats_of}

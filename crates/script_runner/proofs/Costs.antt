@@ -1,14 +1,12 @@
 -- How many entries a command has at most, and how many turns a line, by what they weigh.
-use Rattle.std.proofs.Common.{◌≡◌, ◌∙◌, ap, refl, ℕ, ◌+◌, ◌-◌, ◌*◌, ◌≤◌, zero, suc, Bool, true, false, not, List, [], ◌∷◌, arith, nat_lt, Option, Some, None, Result, Ok, Err, cond, eqb-true, length}
-use Rattle.std.specs.Prelude.{◌==◌, ◌||◌, ◌/◌, ◌%◌, slice_index, sum_by, nat_le}
+use Rattle.std.proofs.Common.{◌≡◌, ap, refl, ℕ, ◌+◌, ◌-◌, ◌*◌, ◌≤◌, zero, suc, Bool, true, false, not, List, [], ◌∷◌, arith, nat_lt, Option, Some, None, Ok, Err, cond, eqb-true, length}
+use Rattle.std.specs.Prelude.{◌==◌, ◌||◌, ◌/◌, ◌%◌, slice_index}
 use Rattle.std.specs.Option.{option_map_or}
 use Rattle.std.proofs.lemmas.Bool.Decides.{nat_tests}
 use Rattle.std.proofs.lemmas.List.{length_push}
 use Rattle.std.proofs.lemmas.List.Sums.{sum_by-cons}
-use Rattle.disk_base.specs.declared.address.Lba.{Lba}
 use Rattle.disk_base.specs.declared.command.DataOut.{DataOut}
 use Rattle.disk_base.specs.declared.command.DataOut.TheVariants.{Nothing, Fill, Given}
-use Rattle.sense_data.specs.declared.sense.Sense.{Sense}
 use Rattle.sense_data.specs.Sense.{sense_of}
 use Rattle.cdb_reader.specs.declared.operation.Operation.{Operation}
 use Rattle.cdb_reader.specs.declared.operation.Operation.TheVariants as operation
@@ -21,7 +19,7 @@ use Rattle.block_machine.proofs.Booleans.{none_of}
 use Rattle.script_text.specs.declared.script.Line.{Line}
 use Rattle.script_text.specs.declared.script.Line.TheVariants.{Command, Function, Scan, Destage, Go, World}
 use Rattle.script_text.specs.Weight.{weight_of, weight_of_blocks, short_length, long_length, weight_of_data, weight_of_command}
-use Rattle.script_runner.specs.Measure.{steps_asked, turns_of_line, turns_of_lines, turns_by_weight, turns_a_line, turns_a_weight}
+use Rattle.script_runner.specs.Measure.{steps_asked, turns_of_line, turns_of_lines, turns_by_weight}
 
 -- what a command weighs, by its operation
 abbrev Weighs : Operation → List ℕ → DataOut → ℕ → Type 0

@@ -16,7 +16,8 @@ use Rattle.script_text.specs.declared.script.Line.TheVariants.{Command, Scan, De
 use Rattle.drive_scene.specs.declared.event.Arrival.{Arrival}
 use Rattle.drive_scene.specs.declared.event.Arrival.TheVariants as arrival
 use Rattle.drive_scene.specs.Background.{background_at_start}
-use Rattle.drive_scene.specs.Scene.{Scene, Beat, scene_after}
+use Rattle.drive_scene.specs.Scene.{Scene, Beat}
+use Rattle.drive_scene.specs.After.{scene_after}
 use Rattle.drive_scene.specs.Holds.{destaged}
 use Rattle.script_runner.specs.Arrivals.{arriving, sends_of, lines_of, arrived_in}
 use Rattle.script_runner.specs.Wanted.{Wanted, wanted_by, destages_in, left_of}
@@ -79,9 +80,14 @@ its_pick = refl
 of_none : number_of (drawn None) ≡ 0
 of_none = refl
 
+-- a turn whose label is another event's isn't that event's
+other_label : (t : Beat) (more : List Beat) → record { label = label.World world.Power; entries = []; ops = [] } ∷ [] ≡ t ∷ more
+    → t.label ≡ label.World world.Cut → ⊥
+other_label t more e l = cc
+
 module _ (s : Scene) where
   abbrev fresh : Scene
-  fresh = record s { hist = state_at_start attentions_at_start }
+  fresh = record s { hist = state_at_start attentions_at_start; back = background_at_start }
 
   -- of two that have something to send the first comes first, and then the second
   first_comes : IsPicked both_wait (record { scene = fresh; came = []; order = None }) (came 1 1 7)
@@ -177,7 +183,7 @@ module _ (s : Scene) where
 
   -- with its label
   another_event : CarryOut ByOrder None fresh [] (World world.Cut ∷ []) (record { label = label.World world.Power; entries = []; ops = [] } ∷ []) → ⊥
-  another_event out = let e = out.2 in let l = out.3 in cc
+  another_event out = other_label out.0 out.1 out.2 out.3
 
 -- two entries a block that is read, and the end
 of_a_read : steps_of (Reading (record { at = 3; end = 5; through = true; reports = false; hardened = false })) ≡ 6

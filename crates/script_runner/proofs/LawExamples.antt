@@ -1,173 +1,157 @@
--- What the laws speak of happens: in a history that was worked out by hand the premise of each is met.
-use Rattle.std.proofs.Common.{◌≡◌, true, List, [], ◌∷◌, ◌++◌, pos, refl, arith}
-use Rattle.std.specs.Prelude.{IsTrue, filter, ◌+◌}
+-- What the laws on whole runs speak of happens: their premises are met in turns that were worked out by hand. Those of the laws on
+-- histories are met beside these laws.
+use Rattle.std.proofs.Common.{◌≡◌, ℕ, true, false, List, [], ◌∷◌, ◌++◌, map, pos, refl, arith}
+use Rattle.std.specs.Prelude.{IsTrue, Ok}
 use Rattle.std.proofs.lemmas.List.Elements.{All-nil, All-cons}
+use Rattle.disk_base.specs.declared.block.Value.TheVariants.{Data, Lost}
 use Rattle.disk_base.specs.declared.command.Attribute.TheVariants.{Simple}
-use Rattle.disk_base.specs.declared.command.DataOut.TheVariants.{Nothing, Fill}
+use Rattle.disk_base.specs.declared.command.DataOut.TheVariants.{Nothing}
 use Rattle.cdb_reader.specs.Operation.{operation_of}
-use Rattle.cdb_reader.specs.Replies as replies
-use Rattle.block_machine.specs.declared.entry.Who.TheVariants.{Command as ByCommand}
-use Rattle.block_machine.specs.declared.entry.Entry.{Entry}
-use Rattle.block_machine.specs.declared.entry.Entry.TheVariants.{Arrived, Started, Cut}
-use Rattle.block_machine.specs.declared.entry.Recovered.TheVariants.{Ready}
+use Rattle.cdb_reader.specs.Request as request
+use Rattle.cdb_reader.specs.Replies.{same_reply, unrecovered_read}
+use Rattle.block_machine.specs.declared.entry.Entry.TheVariants.{Started, Get, Ended}
 use Rattle.block_machine.specs.declared.turn.Label.TheVariants.{Work}
 use Rattle.block_machine.specs.declared.turn.Turn.{Turn}
 use Rattle.block_machine.specs.History.{legal_from, entries_of}
-use Rattle.block_machine.specs.Parts.{Answered, Life, GetOf, HardenOf, asked, before_start}
-use Rattle.block_machine.specs.Laws.{NoneRenews, NoneCuts, AsksToRead, AsksToForce, is_end_of, succeeds, settings_left}
-use Rattle.block_machine.specs.Lives.{AsksToSync, RenewalOf}
+use Rattle.block_machine.specs.Laws.{tally_of}
+use Rattle.block_machine.specs.Parts.{Command, asked}
+use Rattle.block_machine.specs.KeptValues.{is_pending}
+use Rattle.block_machine.proofs.Building.{disk, lba, all_of, told_drive, read, forced_read, verify, sync, comes, starts, works, get, get_bad, hard, good, fails_at, writes}
+use Rattle.platter_model.specs.declared.op.Op.{Op}
+use Rattle.drive_scene.specs.declared.made.Made.{Made}
+use Rattle.drive_scene.specs.Run.{Run, beat_of, behind_factory}
+use Rattle.drive_scene.specs.Scene.{Beat}
 use Rattle.report_text.specs.declared.shown.Shown.{Shown}
 use Rattle.report_text.specs.declared.shown.Shown.TheVariants.{Fetched as FetchedAt}
 use Rattle.report_text.specs.Proper.{IsShown}
 use Rattle.report_text.specs.Laws.{AreShowable}
-use Rattle.block_machine.proofs.Building.{disk, lba, all_of, told_drive, read, write, forced_write, sync, sends, comes, starts, works, get, put, hard, good, cut, power, told, reads, forces}
+use Rattle.script_runner.specs.Laws.{EntryIn, entries_before, CameAsReadWithoutFua, NoneIsLeft, AllThatCameAreGone}
 
--- a write into the cache, its sync, a read of the block, and a write with FUA of the next, as they come and as they are done
+-- a write into the cache, a read of the block while it is dirty, a sync, a read of the block once it is clean, and a bad read of the next
+first_turns : List Turn
+first_turns = writes 1 5 0x11 ++ comes 2 1 (read 5 1) ∷ starts 2 ∷ []
+
+middle_turns : List Turn
+middle_turns = comes 3 1 (sync 5 1) ∷ starts 3 ∷ works 3 (hard 3 5 ∷ good 3 ∷ []) ∷ comes 4 1 (read 5 1) ∷ starts 4 ∷ []
+
+dirty_turn : Turn
+dirty_turn = works 2 (get 2 5 0x11 ∷ good 2 ∷ [])
+
+clean_turn : Turn
+clean_turn = works 4 (get 4 5 0x11 ∷ good 4 ∷ [])
+
+bad_turn : Turn
+bad_turn = works 5 (get_bad 5 6 ∷ fails_at 5 3 0x11 0x00 6 ∷ [])
+
 worked : List Turn
-worked = sends 1 1 (write 5 1) (Fill 0x11) ∷ comes 2 1 (sync 5 1) ∷ comes 3 1 (read 5 1) ∷ sends 4 1 (forced_write 6 1) (Fill 0x22)
-    ∷ starts 1 ∷ works 1 (put 1 5 0x11 ∷ good 1 ∷ []) ∷ starts 2 ∷ works 2 (hard 2 5 ∷ good 2 ∷ [])
-    ∷ starts 3 ∷ works 3 (get 3 5 0x11 ∷ good 3 ∷ []) ∷ starts 4 ∷ works 4 (put 4 6 0x22 ∷ hard 4 6 ∷ good 4 ∷ []) ∷ []
+worked = first_turns ++ dirty_turn ∷ middle_turns ++ clean_turn ∷ comes 5 1 (read 6 1) ∷ starts 5 ∷ bad_turn ∷ []
 
 worked_is_legal : legal_from disk told_drive worked ≡ true
-unfolding worked operation_of
+unfolding worked first_turns middle_turns dirty_turn clean_turn bad_turn operation_of
 worked_is_legal = refl
 
--- its entries
-came : List Entry
-came = Arrived 1 1 (record { 0 = 1 }) Simple (write 5 1) (Fill 0x11) ∷ Arrived 2 1 (record { 0 = 2 }) Simple (sync 5 1) Nothing
-    ∷ Arrived 3 1 (record { 0 = 3 }) Simple (read 5 1) Nothing ∷ Arrived 4 1 (record { 0 = 4 }) Simple (forced_write 6 1) (Fill 0x22) ∷ []
+-- all that came are gone
+none_left : NoneIsLeft disk worked × AllThatCameAreGone disk worked
+unfolding worked first_turns middle_turns dirty_turn clean_turn bad_turn
+none_left = (refl, refl)
 
-written : List Entry
-written = Started 1 ∷ put 1 5 0x11 ∷ good 1 ∷ []
+-- .. and while one is in they aren't
+one_left : ((tally_of (entries_of first_turns)).inside ≡ 2 ∷ []) × ((tally_of (entries_of first_turns)).came ≡ 2) × ((tally_of (entries_of first_turns)).ended ≡ 1)
+unfolding first_turns
+one_left = (refl, refl, refl)
 
-synced : List Entry
-synced = Started 2 ∷ hard 2 5 ∷ good 2 ∷ []
+-- a command of the first initiator without data; one with FUA and a verification are no reads that may use the cache
+command : ℕ → List ℕ → Command
+command c cdb = record { number = c; initiator = 1; tag = record { 0 = c }; attribute = Simple; cdb = cdb; sent = Nothing }
 
-got : List Entry
-got = Started 3 ∷ get 3 5 0x11 ∷ good 3 ∷ []
+through_the_cache : (asked disk (command 4 (read 5 1)) ≡ Ok (request.Read 5 1 false)) × (asked disk (command 4 (forced_read 5 1)) ≡ Ok (request.Read 5 1 true))
+    × (asked disk (command 4 (verify 5 1)) ≡ Ok (request.Verify 5 1))
+unfolding command operation_of
+through_the_cache = (refl, refl, refl)
 
-forced : List Entry
-forced = Started 4 ∷ put 4 6 0x22 ∷ hard 4 6 ∷ good 4 ∷ []
+-- a run with these turns, whatever its drive and its operations are
+module _ (made : Made) (ops : List Op) where
+  a_run : Run
+  a_run = record { made = made; turns = worked; ops = ops; coming = 0 }
 
--- a read that isn't bad, after entries without a cut
-a_read : GetOf (lba 5) (entries_of worked)
-unfolding worked came written synced got forced
-a_read = record { reader = 3; block = all_of 0x11; before = came ++ written ++ synced ++ Started 3 ∷ []; behind = good 3 ∷ forced; whole = refl }
+  beats : List Turn → List Beat
+  beats turns = map (beat_of (behind_factory made ops)) turns
 
-a_read_without_cut : NoneCuts a_read.before
-unfolding a_read came written synced
-a_read_without_cut = refl
+  -- a get of a block for which nothing is pending
+  a_clean_get : EntryIn a_run (Get 4 (lba 5) (Data (all_of 0x11)))
+  unfolding a_run beats worked first_turns middle_turns dirty_turn clean_turn bad_turn
+  a_clean_get = record {
+    turn = beat_of (behind_factory made ops) clean_turn;
+    before = beats (first_turns ++ dirty_turn ∷ middle_turns);
+    behind = beats (comes 5 1 (read 6 1) ∷ starts 5 ∷ bad_turn ∷ []);
+    earlier = [];
+    later = good 4 ∷ [];
+    among = refl;
+    within = refl;
+  }
 
--- one after the block was hardened, without anything newer between
-a_harden : HardenOf (lba 5) a_read.before
-unfolding a_read came written synced
-a_harden = record { who = ByCommand 2; before = came ++ written ++ Started 2 ∷ []; behind = good 2 ∷ Started 3 ∷ []; whole = refl }
+  nothing_pending : is_pending 5 (entries_before a_clean_get) ≡ false
+  unfolding a_clean_get beats first_turns middle_turns dirty_turn
+  nothing_pending = refl
 
-a_read_of_hardened : NoneRenews 5 a_harden.behind
-unfolding a_harden
-a_read_of_hardened = refl
+  -- .. by a READ without FUA
+  a_plain_read : CameAsReadWithoutFua disk 4 (entries_before a_clean_get)
+  unfolding a_clean_get beats first_turns middle_turns dirty_turn command operation_of
+  a_plain_read = record {
+    command = command 4 (read 5 1);
+    numbered = refl;
+    before = entries_of (first_turns ++ dirty_turn ∷ comes 3 1 (sync 5 1) ∷ starts 3 ∷ works 3 (hard 3 5 ∷ good 3 ∷ []) ∷ []);
+    behind = Started 4 ∷ [];
+    whole = refl;
+    from = 5;
+    count = 1;
+    asks = refl;
+  }
 
--- a read that ended GOOD
-a_whole_read : Answered worked
-unfolding worked written synced forced
-a_whole_read = record {
-  command = record { number = 3; initiator = 1; tag = record { 0 = 3 }; attribute = Simple; cdb = read 5 1; sent = Nothing };
-  reply = replies.good;
-  before = Arrived 1 1 (record { 0 = 1 }) Simple (write 5 1) (Fill 0x11) ∷ Arrived 2 1 (record { 0 = 2 }) Simple (sync 5 1) Nothing ∷ [];
-  between = Arrived 4 1 (record { 0 = 4 }) Simple (forced_write 6 1) (Fill 0x22) ∷ written ++ synced ++ Started 3 ∷ get 3 5 0x11 ∷ [];
-  behind = forced;
-  whole = refl;
-}
+  -- .. and of one while its newest value is in the cache alone
+  a_dirty_get : EntryIn a_run (Get 2 (lba 5) (Data (all_of 0x11)))
+  unfolding a_run beats worked first_turns middle_turns dirty_turn clean_turn bad_turn
+  a_dirty_get = record {
+    turn = beat_of (behind_factory made ops) dirty_turn;
+    before = beats first_turns;
+    behind = beats (middle_turns ++ clean_turn ∷ comes 5 1 (read 6 1) ∷ starts 5 ∷ bad_turn ∷ []);
+    earlier = [];
+    later = good 2 ∷ [];
+    among = refl;
+    within = refl;
+  }
 
-a_whole_read_asks : AsksToRead (asked disk a_whole_read.command) 5 1 × IsTrue (succeeds a_whole_read.reply)
-unfolding a_whole_read operation_of
-a_whole_read_asks = ((refl, refl), refl)
+  something_pending : is_pending 5 (entries_before a_dirty_get) ≡ true
+  unfolding a_dirty_get beats first_turns
+  something_pending = refl
 
--- a write with FUA that ended GOOD
-a_forced_write : Life worked
-unfolding worked written synced got forced
-a_forced_write = record {
-  command = record { number = 4; initiator = 1; tag = record { 0 = 4 }; attribute = Simple; cdb = forced_write 6 1; sent = Fill 0x22 };
-  reply = replies.good;
-  before = Arrived 1 1 (record { 0 = 1 }) Simple (write 5 1) (Fill 0x11) ∷ Arrived 2 1 (record { 0 = 2 }) Simple (sync 5 1) Nothing
-      ∷ Arrived 3 1 (record { 0 = 3 }) Simple (read 5 1) Nothing ∷ [];
-  queued = written ++ synced ++ got;
-  during = put 4 6 0x22 ∷ hard 4 6 ∷ [];
-  behind = [];
-  whole = refl;
-}
+  -- a bad get, and an end that tells it
+  a_bad_get : EntryIn a_run (Get 5 (lba 6) Lost)
+  unfolding a_run beats worked first_turns middle_turns dirty_turn clean_turn bad_turn
+  a_bad_get = record {
+    turn = beat_of (behind_factory made ops) bad_turn;
+    before = beats (first_turns ++ dirty_turn ∷ middle_turns ++ clean_turn ∷ comes 5 1 (read 6 1) ∷ starts 5 ∷ []);
+    behind = [];
+    earlier = [];
+    later = fails_at 5 3 0x11 0x00 6 ∷ [];
+    among = refl;
+    within = refl;
+  }
 
-a_forced_write_asks : AsksToForce (asked disk a_forced_write.command) (settings_left (before_start a_forced_write)) 6 1 × IsTrue (succeeds a_forced_write.reply)
-unfolding a_forced_write written synced got operation_of
-a_forced_write_asks = ((refl, refl, refl), refl)
+  an_unread_end : EntryIn a_run (Ended 5 (unrecovered_read 6))
+  unfolding a_run beats worked first_turns middle_turns dirty_turn clean_turn bad_turn
+  an_unread_end = record {
+    turn = beat_of (behind_factory made ops) bad_turn;
+    before = beats (first_turns ++ dirty_turn ∷ middle_turns ++ clean_turn ∷ comes 5 1 (read 6 1) ∷ starts 5 ∷ []);
+    behind = [];
+    earlier = get_bad 5 6 ∷ [];
+    later = [];
+    among = refl;
+    within = refl;
+  }
 
--- a sync that ended GOOD, a block of its range, and what was put there before
-a_sync : Life worked
-unfolding worked written synced got forced
-a_sync = record {
-  command = record { number = 2; initiator = 1; tag = record { 0 = 2 }; attribute = Simple; cdb = sync 5 1; sent = Nothing };
-  reply = replies.good;
-  before = Arrived 1 1 (record { 0 = 1 }) Simple (write 5 1) (Fill 0x11) ∷ [];
-  queued = Arrived 3 1 (record { 0 = 3 }) Simple (read 5 1) Nothing ∷ Arrived 4 1 (record { 0 = 4 }) Simple (forced_write 6 1) (Fill 0x22) ∷ written;
-  during = hard 2 5 ∷ [];
-  behind = got ++ forced;
-  whole = refl;
-}
-
-a_sync_asks : AsksToSync (asked disk a_sync.command) 5 × IsTrue (succeeds a_sync.reply)
-unfolding a_sync operation_of
-a_sync_asks = ((omega arith, omega arith), refl)
-
-a_renewal : RenewalOf (lba 5) (before_start a_sync)
-unfolding a_sync came written
-a_renewal = record { entry = put 1 5 0x11; renewing = refl; before = came ++ Started 1 ∷ []; behind = good 1 ∷ []; whole = refl }
-
-a_renewal_without_cut : NoneCuts a_renewal.behind
-unfolding a_renewal
-a_renewal_without_cut = refl
-
--- each of two commands has its end
-two_ends : (filter (is_end_of 1) (entries_of worked) ≡ good 1 ∷ []) × (filter (is_end_of 2) (entries_of worked) ≡ good 2 ∷ [])
-unfolding worked
-two_ends = (refl, refl)
-
--- two reads of a block after a power cut, with nothing newer between: no script may have one yet, but a legal history may
-cut_short : List Turn
-cut_short = forces 1 0 0x11 ++ cut ∷ power (Ready 6) ∷ told 2 1 0x29 0x01 ++ reads 3 0 0x11 ++ reads 4 0 0x11
-
-cut_short_is_legal : legal_from disk told_drive cut_short ≡ true
-unfolding cut_short operation_of
-cut_short_is_legal = refl
-
-a_later_read : GetOf (lba 0) (entries_of cut_short)
-unfolding cut_short
-a_later_read = record {
-  reader = 4;
-  block = all_of 0x11;
-  before = entries_of (forces 1 0 0x11 ++ cut ∷ power (Ready 6) ∷ told 2 1 0x29 0x01 ++ reads 3 0 0x11 ++ comes 4 1 (read 0 1) ∷ starts 4 ∷ []);
-  behind = good 4 ∷ [];
-  whole = refl;
-}
-
-an_earlier_read : GetOf (lba 0) a_later_read.before
-unfolding a_later_read
-an_earlier_read = record {
-  reader = 3;
-  block = all_of 0x11;
-  before = entries_of (forces 1 0 0x11 ++ cut ∷ power (Ready 6) ∷ told 2 1 0x29 0x01 ++ comes 3 1 (read 0 1) ∷ starts 3 ∷ []);
-  behind = good 3 ∷ entries_of (comes 4 1 (read 0 1) ∷ starts 4 ∷ []);
-  whole = refl;
-}
-
-two_reads_after_a_cut : (before since : List Entry) × (an_earlier_read.before ≡ before ++ Cut ∷ since) × NoneRenews 0 since × NoneRenews 0 an_earlier_read.behind
-unfolding an_earlier_read
-two_reads_after_a_cut = (
-  entries_of (forces 1 0 0x11),
-  entries_of (power (Ready 6) ∷ told 2 1 0x29 0x01 ++ comes 3 1 (read 0 1) ∷ starts 3 ∷ []),
-  refl,
-  refl,
-  refl,
-)
+told_unread : IsTrue (same_reply (unrecovered_read 6) (unrecovered_read 6))
+told_unread = refl
 
 -- a turn that a report may show with its operation; a command's number has 32 bits
 fetched : Shown

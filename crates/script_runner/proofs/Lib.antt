@@ -1,4 +1,6 @@
+pub mod Unmoved
 pub mod Places
+mod PlainReads
 pub mod Beats
 pub mod Each
 pub mod Ages

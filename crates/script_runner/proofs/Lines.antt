@@ -1,6 +1,6 @@
 -- What each line of a script does, and the lines one after another.
-use Rattle.std.proofs.Common.{◌≡◌, ◌∙◌, ap, sym, refl, subst, ℕ, ◌+◌, ◌-◌, ◌<◌, ◌≤◌, ◌⊎◌, inl, inr, zero, suc, List, [], ◌∷◌, ◌++◌, map, drop, arith, Some, Option, length, append_assoc, get_or}
-use Rattle.std.specs.Prelude.{◌==◌, fold, filter, filter_map, sum_by, OnOk, Result, Ok, Err}
+use Rattle.std.proofs.Common.{◌≡◌, ◌∙◌, ap, sym, refl, subst, ℕ, ◌+◌, ◌-◌, ◌<◌, ◌≤◌, ◌⊎◌, inl, inr, zero, suc, List, [], ◌∷◌, ◌++◌, drop, arith, Some, Option, length, append_assoc, get_or}
+use Rattle.std.specs.Prelude.{◌==◌, fold, filter_map, sum_by, OnOk, Result, Ok, Err}
 use Rattle.std.proofs.lemmas.List.{append-nil, drop_more, drop_all}
 use Rattle.std.proofs.lemmas.List.Elements.{filter-append, filter_map-append}
 use Rattle.std.proofs.lemmas.List.Sums.{sum_by-cons, sum_by-append}
@@ -12,7 +12,8 @@ use Rattle.script_text.specs.declared.script.Line.{Line}
 use Rattle.script_text.specs.declared.script.Line.TheVariants.{Command, Function, Destage, Go, World}
 use Rattle.drive_scene.specs.declared.event.Arrival.{Arrival as Sent}
 use Rattle.drive_scene.specs.declared.event.Arrival.TheVariants as arrival
-use Rattle.drive_scene.specs.Scene.{Scene, Beat, capacity, scene_after, scene_at_start}
+use Rattle.drive_scene.specs.Scene.{Scene, Beat, capacity, scene_at_start}
+use Rattle.drive_scene.specs.After.{scene_after}
 use Rattle.drive_scene.specs.declared.made.Made.{Made}
 use Rattle.drive_scene.specs.Run.{Run, scene_of, beats_of}
 use Rattle.drive_scene.specs.declared.answer.Waiting.{Waiting}
@@ -28,7 +29,7 @@ use Rattle.script_runner.specs.Phase.{InHand, one_turn_on, IsPicked, ByOrder}
 use Rattle.script_runner.specs.CarriedOut.{CarriesPhase, CarryOut}
 use Rattle.script_runner.specs.Measure.{turns_left, turns_of_arrival, turns_of_line, turns_of_lines, turns_to_send, turns_wanted, turns_of_phase, sum_upto}
 use Rattle.script_runner.specs.Phasing.{IsToSend, Carried, Happens}
-use Rattle.script_runner.specs.Leading.{Wait, IsAtRest, TakesLine, CarriesOut}
+use Rattle.script_runner.specs.Leading.{IsAtRest, TakesLine, CarriesOut}
 use Rattle.script_runner.proofs.Places.{put_same, put_other}
 use Rattle.script_runner.proofs.Each.{each_append}
 use Rattle.script_runner.proofs.Beats.{scene_on, scene_next}

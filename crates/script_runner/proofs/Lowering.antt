@@ -11,7 +11,8 @@ use Rattle.block_machine.specs.declared.entry.Entry.{Entry}
 use Rattle.block_machine.specs.declared.turn.Label.TheVariants as label
 use Rattle.block_machine.specs.State.{State, Duty}
 use Rattle.block_machine.specs.Steps.{begun, entries_after}
-use Rattle.drive_scene.specs.Scene.{Scene, Beat, capacity, scene_after, window_after}
+use Rattle.drive_scene.specs.Scene.{Scene, Beat, capacity}
+use Rattle.drive_scene.specs.After.{scene_after, window_after}
 use Rattle.drive_scene.specs.GoodTurn.{GoodTurn, window_at_most}
 use Rattle.script_runner.specs.Measure.{steps_of_member, turns_left, turns_a_step, turns_to_move, sum_upto}
 use Rattle.script_runner.proofs.Places.{put_same, put_other}

@@ -1,5 +1,5 @@
 -- Nothing but a block's own data is ever meant at its place.
-use Rattle.std.proofs.Common.{◌≡◌, ◌≢◌, ◌∙◌, ap, sym, refl, ℕ, zero, suc, ◌+◌, ◌<◌, ◌≤◌, Bool, true, false, cond, List, [], ◌∷◌, ◌++◌, map, arith, Option, Some, None}
+use Rattle.std.proofs.Common.{◌≡◌, ◌≢◌, ◌∙◌, ap, sym, refl, subst, ℕ, zero, suc, ◌+◌, ◌<◌, ◌≤◌, Bool, true, false, cond, List, [], ◌∷◌, ◌++◌, map, arith, Option, Some, None}
 use Rattle.std.specs.Prelude.{◌==◌, if◌then◌else◌, fold, replicate, All}
 use Rattle.std.specs.List.{range_with_len}
 use Rattle.std.proofs.lemmas.Bool.{eq-eqb, eqb-true}
@@ -22,8 +22,11 @@ use Rattle.sector_store.specs.Maps.{records_of}
 use Rattle.sector_store.specs.State.{placed}
 use Rattle.sector_store.specs.Factory.{block_at, zero_block, zero_blocks, first_map, factory_payloads}
 use Rattle.drive_scene.specs.declared.made.Made.{Made}
-use Rattle.drive_scene.specs.Scene.{Scene, Beat, scene_at_start, scene_after}
+use Rattle.drive_scene.specs.Scene.{Scene, Beat, scene_at_start}
+use Rattle.drive_scene.specs.After.{scene_after}
 use Rattle.drive_scene.specs.GoodTurn.{GoodTurn, IsBlockData, WritesBlockData}
+use Rattle.drive_scene.proofs.Uncommitted.{stays_flightless}
+use Rattle.script_runner.proofs.Unmoved.{same_map, writes_blocks}
 use Rattle.block_machine.specs.declared.entry.Entry.{Entry}
 
 -- a payload that may be missing is a block's data where there is one
@@ -102,12 +105,13 @@ zeros_write m P of_block from (suc n) is =
     (of_block (zero_block m from) (block_at from, replicate 512 0, omega arith, refl)) (zeros_write m P of_block (from + 1) n (omega arith))
 
 -- all operations write blocks' data or what the factory did
-all_written : (Q : Op → Type 0) (s : Scene) (turns : List Beat) → ((entries : List Entry) (o : Op) → WritesBlockData s.map entries o → Q o) → Along scene_after GoodTurn s turns
+all_written : (Q : Op → Type 0) (s : Scene) (turns : List Beat) → s.back.flights ≡ [] → ((entries : List Entry) (o : Op) → WritesBlockData s.map entries o → Q o) → Along scene_after GoodTurn s turns
     → All Q s.ops → All Q (fold scene_after s turns).ops
-all_written Q s [] of_block good before = before
-all_written Q s (t ∷ turns) of_block good before =
-    all_written Q (scene_after s t) turns of_block good.1
-    (All-append Q s.ops t.ops before (All-weaker (WritesBlockData s.map t.entries) Q (of_block t.entries) t.ops good.0.written))
+all_written Q s [] none of_block good before = before
+all_written Q s (t ∷ turns) none of_block good before =
+    all_written Q (scene_after s t) turns (stays_flightless s t none)
+    (λ entries o writes. of_block entries o (subst (λ (m : DefectMap). WritesBlockData m entries o) (same_map s t none) writes)) good.1
+    (All-append Q s.ops t.ops before (All-weaker (WritesBlockData s.map t.entries) Q (of_block t.entries) t.ops (writes_blocks s t none good.0)))
 
 -- so a drive writes nothing but a block's data to its place, from the factory on
 pub own_written : BlocksHaveOwnSectors → BlocksLieOnUserSectors → (made : Made) (turns : List Beat) → IsValidMap (factory_map made.size made.primary)
@@ -123,4 +127,4 @@ own_written apart on_user made turns valid good b below =
     let payloads : All P (factory_payloads made.size made.primary) =
     All-append P (records_of (first_map made.size made.primary) ++ records_of m) (zero_blocks m)
     (All-append P (records_of (first_map made.size made.primary)) (records_of m) (records (first_map made.size made.primary) (omega arith)) (records m (omega arith))) zeros in
-    all_written Q (scene_at_start made) turns of_block good (All-map Q Wrote (factory_payloads made.size made.primary) payloads)
+    all_written Q (scene_at_start made) turns refl of_block good (All-map Q Wrote (factory_payloads made.size made.primary) payloads)

@@ -1,5 +1,5 @@
 -- A phase in hand, one turn on and at its end.
-use Rattle.std.proofs.Common.{◌≡◌, ◌∙◌, ap, sym, refl, subst, ℕ, ◌%◌, ◌<◌, zero, suc, ◌+◌, Bool, true, false, not, List, [], ◌∷◌, ◌++◌, map, drop, arith, Some, None, Option, cond, length, append_assoc}
+use Rattle.std.proofs.Common.{◌≡◌, ◌⊎◌, inl, ◌∙◌, ap, sym, refl, subst, ℕ, ◌%◌, ◌<◌, zero, suc, ◌+◌, Bool, true, false, not, List, [], ◌∷◌, ◌++◌, map, drop, arith, Some, None, Option, cond, length, append_assoc}
 use Rattle.std.specs.Prelude.{◌==◌, ◌&&◌, fold, filter, slice_get}
 use Rattle.std.specs.List.{list_all}
 use Rattle.std.specs.Option.{option_map, is_some}
@@ -16,19 +16,22 @@ use Rattle.drive_scene.specs.declared.event.Arrival.{Arrival as Sent}
 use Rattle.drive_scene.specs.declared.answer.Waiting.{Waiting}
 use Rattle.drive_scene.specs.declared.answer.Pick.{Pick}
 use Rattle.drive_scene.specs.declared.answer.Pick.TheVariants.{Arrive, Work, Destage}
-use Rattle.drive_scene.specs.Scene.{Scene, Beat, scene_after}
+use Rattle.drive_scene.specs.Scene.{Scene, Beat}
+use Rattle.drive_scene.specs.After.{scene_after}
 use Rattle.drive_scene.specs.Run.{Run, scene_of, beats_of}
 use Rattle.drive_scene.specs.Holds.{destaged}
 use Rattle.drive_scene.specs.Able.{able, able_destage, arrives, is_able, is_spent, picked, pick_of, nothing_waiting, turns_at_most}
 use Rattle.drive_scene.specs.Progress.{SomebodyIsAble}
 use Rattle.drive_scene.specs.Turning.{label_of_pick}
 use Rattle.script_runner.specs.declared.queues.Queued.{Queued}
-use Rattle.script_runner.specs.Arrivals.{Sends, sends_of, arrived_by, arrived_in}
+use Rattle.script_runner.specs.Arrivals.{sends_of, arrived_by, arrived_in}
 use Rattle.script_runner.specs.Wanted.{Wanted, AreSame, IsNothing, wanted_of, is_destage, destages_in, left_of}
 use Rattle.script_runner.specs.Order.{drawn, number_of, order_after}
 use Rattle.script_runner.specs.Phase.{is_of_phase, have_something, waiting_of, InHand, one_turn_on, IsPicked}
 use Rattle.script_runner.specs.Phasing.{TakesTurn, Carried}
 use Rattle.script_runner.specs.Measure.{turns_of_phase}
+use Rattle.drive_scene.proofs.Walking.{able-is, able-quiet}
+use Rattle.script_runner.proofs.Unmoved.{flightless}
 use Rattle.script_runner.proofs.Beats.{along_more, scene_on}
 use Rattle.script_runner.proofs.Picks.{picked_on, not_spent}
 use Rattle.script_runner.proofs.Underway.{InPhase}
@@ -174,27 +177,30 @@ none_destaged asked (Some b) none some = go (not (asked == 0)) refl none
     go false is e = absurd (grind (arith, nat_tests, is, some))
 
 -- the arrivals, the commands and the destage that may come, where nothing may
-module _ (s : Scene) (w : Waiting) (unable : able s w ≡ []) where
+module _ (s : Scene) (w : Waiting) (none : s.back.flights ≡ []) (unable : able s w ≡ []) where
   abbrev commands : List Pick
   commands = map (λ (m : Member). Work m.task.c) (filter (is_able s) s.hist.set)
 
+  unable_all : map Arrive (filter (arrives w) initiators) ++ (commands ++ able_destage s w) ≡ []
+  unable_all = sym (able-is s w none) ∙ unable
+
   no_arrivals : filter (arrives w) initiators ≡ []
-  no_arrivals = map_empty Arrive (filter (arrives w) initiators) (both_empty (map Arrive (filter (arrives w) initiators)) (commands ++ able_destage s w) unable).0
+  no_arrivals = map_empty Arrive (filter (arrives w) initiators) (both_empty (map Arrive (filter (arrives w) initiators)) (commands ++ able_destage s w) unable_all).0
 
   no_others : (commands ≡ []) × (able_destage s w ≡ [])
-  no_others = both_empty commands (able_destage s w) (both_empty (map Arrive (filter (arrives w) initiators)) (commands ++ able_destage s w) unable).1
+  no_others = both_empty commands (able_destage s w) (both_empty (map Arrive (filter (arrives w) initiators)) (commands ++ able_destage s w) unable_all).1
 
   -- so nothing may come where nothing waits
   able_alone : able s nothing_waiting ≡ []
-  able_alone = append-nil commands ∙ no_others.0
+  able_alone = able-quiet s nothing_waiting none refl ∙ no_others.0
 
 -- no command is in where nobody is able
 none_in : (s : Scene) → SomebodyIsAble s → able s nothing_waiting ≡ [] → s.hist.set ≡ []
 none_in s progress unable = go s.hist.set progress
   where
-    go : (set : List Member) → (0 < length set → 0 < length (able s nothing_waiting)) → set ≡ []
+    go : (set : List Member) → ((0 < length set) ⊎ (0 < length s.back.flights) → 0 < length (able s nothing_waiting)) → set ≡ []
     go [] some = refl
-    go (m ∷ ms) some = let lt = some (omega arith) in let none = ap length unable in absurd (omega arith)
+    go (m ∷ ms) some = let lt = some (inl (omega arith)) in let none = ap length unable in absurd (omega arith)
 
 -- turns are left in a phase for which there was room
 pub not_spent_in : (old now : Run) (order so_far : Option ℕ) (wanted left : Wanted) → InPhase old order wanted now so_far left → length old.turns + turns_of_phase (scene_of old) wanted < turns_at_most → is_spent now ≡ false
@@ -210,8 +216,8 @@ phase_done old now order so_far wanted queued x phase eight on room none progres
     let unspent = not_spent_in old now order so_far wanted left phase room in
     let unpicked : picked s w x ≡ None = (let h : pick_of now w x ≡ picked s w x = rw (on, unspent) refl in sym h ∙ none) in
     let unable = none_able (able s w) x unpicked in
-    let sent = all_sent queued.queues queued.destages eight (no_arrivals s w unable) in
-    let empty = none_in s progress (able_alone s w unable) in
+    let sent = all_sent queued.queues queued.destages eight (no_arrivals s w (flightless now) unable) in
+    let empty = none_in s progress (able_alone s w (flightless now) unable) in
     let scene = scene_on old now phase.own phase.beats phase.made in
     let few = phase.few in
     let so_many = phase.destages in (
@@ -224,7 +230,7 @@ phase_done old now order so_far wanted queued x phase eight on room none progres
             kinds = phase.kinds;
             arrivals = λ i. sym (phase.arrivals i ∙ ap (λ (xs : List Sent). arrived_in i phase.own ++ xs) (sent i) ∙ append-nil (arrived_in i phase.own));
             destages = omega arith;
-            none_left = λ fewer. subst (λ (k : Scene). destaged k ≡ None) scene (none_destaged queued.destages (destaged s) (no_others s w unable).1 (omega arith));
+            none_left = λ fewer. subst (λ (k : Scene). destaged k ≡ None) scene (none_destaged queued.destages (destaged s) (no_others s w (flightless now) unable).1 (omega arith));
             idle = subst (λ (k : Scene). k.hist.set ≡ []) scene empty;
           };
           by_rule = phase.by_rule;

@@ -1,5 +1,5 @@
 -- What may be picked isn't refused.
-use Rattle.std.proofs.Common.{◌≡◌, ◌≢◌, refl, ℕ, ◌%◌, ◌<◌, ◌≤◌, Bool, true, false, not, List, [], ◌∷◌, ◌++◌, map, length, arith, Some, None, Option, cond}
+use Rattle.std.proofs.Common.{◌≡◌, ◌≢◌, refl, sym, subst, ℕ, ◌%◌, ◌<◌, ◌≤◌, Bool, true, false, not, List, [], ◌∷◌, ◌++◌, map, length, arith, Some, None, Option, cond}
 use Rattle.std.specs.Prelude.{filter, is_none, ◌==◌, ◌&&◌, ◌||◌}
 use Rattle.std.specs.Option.{is_some}
 use Rattle.std.proofs.lemmas.Bool.Decides.{nat_tests}
@@ -16,6 +16,7 @@ use Rattle.drive_scene.specs.Scene.{Scene}
 use Rattle.drive_scene.specs.Run.{Run, scene_of}
 use Rattle.drive_scene.specs.Holds.{destaged}
 use Rattle.drive_scene.specs.Able.{arrives, able, able_destage, is_able, picked, pick_of, refusal, refusal_of_work, work_refused, is_spent, turns_at_most}
+use Rattle.drive_scene.proofs.Walking.{able-is}
 use Rattle.script_runner.specs.Wanted.{Wanted}
 use Rattle.script_runner.specs.Phase.{waiting_of}
 use Rattle.script_runner.specs.Phasing.{Fetches}
@@ -54,17 +55,17 @@ module _ (s : Scene) (wanted : Wanted) where
       go true false is_asked is_can = tt
       go true true is_asked is_can = ((grind (arith, nat_tests, is_asked), is_can), tt)
 
-  pub all_can : Between 0 s.hist.set s.hist.arrived → Each (CanCome s wanted) (able s (waiting_of wanted))
-  all_can ages = each_append (CanCome s wanted) (map Arrive (filter (arrives (waiting_of wanted)) initiators)) (map (λ m. Work m.task.c) (filter (is_able s) s.hist.set) ++ able_destage s (waiting_of wanted))
+  pub all_can : s.back.flights ≡ [] → Between 0 s.hist.set s.hist.arrived → Each (CanCome s wanted) (able s (waiting_of wanted))
+  all_can none ages = subst (Each (CanCome s wanted)) (sym (able-is s (waiting_of wanted) none)) (each_append (CanCome s wanted) (map Arrive (filter (arrives (waiting_of wanted)) initiators)) (map (λ m. Work m.task.c) (filter (is_able s) s.hist.set) ++ able_destage s (waiting_of wanted))
       (each_map Arrive (CanCome s wanted) (filter (arrives (waiting_of wanted)) initiators) (each_filter (λ i. CanCome s wanted (Arrive i)) (arrives (waiting_of wanted)) initiators arrivals_can))
       (each_append (CanCome s wanted) (map (λ m. Work m.task.c) (filter (is_able s) s.hist.set)) (able_destage s (waiting_of wanted))
       (each_map (λ (m : Member). Work m.task.c) (CanCome s wanted) (filter (is_able s) s.hist.set)
       (each_filter (λ m. CanCome s wanted (Work m.task.c)) (is_able s) s.hist.set
       (each_weaker (λ (m : Member). member_of s.hist.set m.task.c ≡ Some m) (λ (m : Member). is_able s m ≡ true → CanCome s wanted (Work m.task.c)) s.hist.set work_can (own_member 0 s.hist.set s.hist.arrived ages))))
-      destages_can)
+      destages_can))
 
-  pub picked_can : (x : ℕ) (p : Pick) → Between 0 s.hist.set s.hist.arrived → picked s (waiting_of wanted) x ≡ Some p → CanCome s wanted p
-  picked_can x p ages is = each_at (CanCome s wanted) (able s (waiting_of wanted)) (x % length (able s (waiting_of wanted))) p (all_can ages) is
+  pub picked_can : (x : ℕ) (p : Pick) → s.back.flights ≡ [] → Between 0 s.hist.set s.hist.arrived → picked s (waiting_of wanted) x ≡ Some p → CanCome s wanted p
+  picked_can x p none ages is = each_at (CanCome s wanted) (able s (waiting_of wanted)) (x % length (able s (waiting_of wanted))) p (all_can none ages) is
 
 -- a pick of a drive is one while the power is on
 pub picked_on : (r : Run) (w : Waiting) (x : ℕ) (p : Pick) → pick_of r w x ≡ Some p → (is_off r.ops ≡ false) × (picked (scene_of r) w x ≡ Some p)

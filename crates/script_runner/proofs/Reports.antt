@@ -1,5 +1,5 @@
 -- The report of a good run is the report of its turns.
-use Rattle.std.proofs.Common.{◌≡◌, ◌∙◌, sym, ℕ, ◌≤◌, List, [], ◌∷◌, map, drop, length, arith}
+use Rattle.std.proofs.Common.{◌≡◌, ℕ, ◌≤◌, List, [], ◌∷◌, map, length, arith}
 use Rattle.std.proofs.lemmas.List.{length-map}
 use Rattle.disk_base.specs.Along.{Along}
 use Rattle.block_machine.specs.declared.turn.Turn.{Turn}
@@ -10,7 +10,7 @@ use Rattle.report_text.specs.Turns.{part_of}
 use Rattle.report_text.specs.Lines.{IsTurn, minutes_behind}
 use Rattle.report_text.specs.Reading.{Place, first_place, place_after}
 use Rattle.report_text.specs.Laws.{MayFollow, ReportsReadAgain}
-use Rattle.script_runner.specs.Laws.{ReportsTellTheirRuns}
+use Rattle.script_runner.specs.Laws.{OfWholeRuns, ReportsTellTheirRuns}
 use Rattle.script_runner.specs.Script.{made_for}
 use Rattle.script_runner.proofs.Beats.{forward}
 
@@ -23,7 +23,7 @@ follow_on shown p (t ∷ turns) to follow within fit =
     let later = forward t.ops_to turns to follow.2 in
     (record { begins = follow.0; forward = follow.1; within = omega (arith, later); is_turn = fit.0 }, follow_on shown (place_after p t) turns to follow.2 within fit.1)
 
-pub reports_tell : ReportsReadAgain → ReportsTellTheirRuns
+pub reports_tell : ReportsReadAgain → OfWholeRuns ReportsTellTheirRuns
 unfolding behind_factory
 reports_tell again order script turns ops good fit small =
     let own = behind_factory (made_for good.size script) ops in

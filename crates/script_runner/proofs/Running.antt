@@ -8,7 +8,8 @@ use Rattle.script_text.specs.Measures.{Measures}
 use Rattle.script_text.specs.Standing as text
 use Rattle.geometry_map.specs.Size.{capacity_of}
 use Rattle.drive_scene.specs.declared.made.Made.{Made}
-use Rattle.drive_scene.specs.Scene.{Scene, Beat, scene_at_start, scene_after, factory_ops}
+use Rattle.drive_scene.specs.Scene.{Scene, Beat, scene_at_start, factory_ops}
+use Rattle.drive_scene.specs.After.{scene_after}
 use Rattle.drive_scene.specs.Run.{Run, IsGoodRun, beat_of, behind_factory, scene_of, beats_of}
 use Rattle.script_runner.specs.CarriedOut.{CarryOut}
 use Rattle.script_runner.specs.Leading.{CarriesOut}

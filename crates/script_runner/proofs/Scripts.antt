@@ -1,5 +1,5 @@
 -- A script that was read can be carried out: its lines are served, and take fewer turns than a drive can number.
-use Rattle.std.proofs.Common.{◌≡◌, ◌∙◌, ap, sym, refl, subst, ℕ, ◌+◌, ◌*◌, ◌<◌, ◌≤◌, zero, suc, Bool, true, false, not, List, [], ◌∷◌, ◌++◌, arith, nat_lt, Result, Ok, Err, IfOk, cond, length}
+use Rattle.std.proofs.Common.{◌≡◌, ◌∙◌, ap, sym, refl, subst, ℕ, ◌+◌, ◌<◌, ◌≤◌, zero, suc, Bool, true, false, not, List, [], ◌∷◌, ◌++◌, arith, nat_lt, Result, Ok, Err, IfOk, cond, length}
 use Rattle.std.proofs.lemmas.Bool.{leb-true, ltb-true}
 use Rattle.std.specs.Prelude.{◌&&◌, nat_le, codes, is_none, All, sum_by}
 use Rattle.std.specs.List.{list_all, list_any}

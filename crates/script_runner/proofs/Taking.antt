@@ -30,7 +30,8 @@ use Rattle.drive_scene.specs.declared.event.Event.{Event}
 use Rattle.drive_scene.specs.declared.event.Event.TheVariants as event
 use Rattle.drive_scene.specs.declared.answer.Pick.{Pick}
 use Rattle.drive_scene.specs.declared.answer.Pick.TheVariants.{Arrive, Work, Job, Scan, Destage}
-use Rattle.drive_scene.specs.Scene.{Scene, Beat, capacity, scene_after, scene_at_start}
+use Rattle.drive_scene.specs.Scene.{Scene, Beat, capacity, scene_at_start}
+use Rattle.drive_scene.specs.After.{scene_after}
 use Rattle.drive_scene.specs.GoodTurn.{GoodTurn}
 use Rattle.drive_scene.specs.Kinds.{IsAfterDestage}
 use Rattle.drive_scene.specs.Laws.{DestagesLeaveCommands}

@@ -13,7 +13,7 @@ use Rattle.history_laws.specs.Unread.{bad_after, last_bad, UnreadEndsFollowBadGe
 use Rattle.history_laws.proofs.UnreadLaw.{unread_ends_follow_bad_gets}
 use Rattle.drive_scene.specs.Scene.{Beat}
 use Rattle.drive_scene.specs.Run.{beat_of, behind_factory}
-use Rattle.script_runner.specs.Laws.{BadReadsAreShown, UnreadEndsAreShown}
+use Rattle.script_runner.specs.Laws.{OfWholeRunsWithoutStrays, BadReadsAreShown, UnreadEndsAreShown}
 use Rattle.script_runner.specs.Script.{made_for}
 use Rattle.script_runner.proofs.RunLaws.{of_task_legal}
 
@@ -73,7 +73,7 @@ bad_among c b g (e ∷ entries) h =
 got_bad : (c : ℕ) (b : Lba) (entries : List Entry) → last_bad c entries ≡ Some b.0 → BadGet c b entries
 got_bad c b entries h = ⊎_elim (λ (e : None ≡ Some b.0). absurd (cc)) (λ (got : BadGet c b entries). got) (bad_among c b None entries h)
 
-pub unread_ends_are_shown : BadReadsAreShown → UnreadEndsAreShown
+pub unread_ends_are_shown : OfWholeRunsWithoutStrays BadReadsAreShown → OfWholeRunsWithoutStrays UnreadEndsAreShown
 unread_ends_are_shown shown order script turns ops good none c reply b end same =
     let p = parted_turns (behind_factory (made_for good.size script) ops) turns end.before end.turn end.behind end.among in
     let last : last_bad c end.earlier ≡ Some b.0 =

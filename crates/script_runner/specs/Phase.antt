@@ -7,7 +7,8 @@ use Rattle.block_machine.specs.declared.turn.Label.{Label}
 use Rattle.block_machine.specs.declared.turn.Label.TheVariants as label
 use Rattle.block_machine.specs.Attentions.{initiators}
 use Rattle.drive_scene.specs.declared.answer.Waiting.{Waiting}
-use Rattle.drive_scene.specs.Scene.{Scene, Beat, scene_after}
+use Rattle.drive_scene.specs.Scene.{Scene, Beat}
+use Rattle.drive_scene.specs.After.{scene_after}
 use Rattle.drive_scene.specs.Holds.{destaged}
 use Rattle.drive_scene.specs.Able.{picked}
 use Rattle.drive_scene.specs.Turning.{label_of_pick}

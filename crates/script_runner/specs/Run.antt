@@ -8,7 +8,8 @@ use Rattle.block_machine.specs.declared.turn.Turn.{Turn}
 use Rattle.block_machine.specs.History.{legal, task_legal}
 use Rattle.script_text.specs.declared.script.Script.{Script}
 use Rattle.report_text.specs.declared.run.Run as report
-use Rattle.drive_scene.specs.Scene.{Scene, scene_at_start, scene_after, factory_ops}
+use Rattle.drive_scene.specs.Scene.{Scene, scene_at_start, factory_ops}
+use Rattle.drive_scene.specs.After.{scene_after}
 use Rattle.drive_scene.specs.GoodTurn.{IsStood}
 use Rattle.drive_scene.specs.Run as drive
 use Rattle.drive_scene.specs.Run.{IsGoodRun, beats_of}

@@ -8,7 +8,7 @@ ghost use Rattle.block_machine.specs.Lives.{WritesPutEachBlockOnce, SyncsHardenW
 ghost use Rattle.block_machine.specs.Stages.{EntriesFitTheirStage};
 ghost use Rattle.history_laws.specs.Order.{TasksStartInOrder};
 ghost use Rattle.history_laws.specs.Unread.{UnreadEndsFollowBadGets};
-ghost use Rattle.script_runner.specs.Laws.{OfGoodRuns, OfRunsWithoutStrays, AreLegal, AreTaskLegal, BeginningsAreLegal, NoneIsLeft, AllThatCameAreGone, DirtyBlocksArePending, GetsAreShown, BadReadsAreShown, UnreadEndsAreShown, ReportsTellTheirRuns};
+ghost use Rattle.script_runner.specs.Laws.{OfWholeRuns, OfWholeRunsWithoutStrays, OfGoodRuns, OfRunsWithoutStrays, AreLegal, AreTaskLegal, BeginningsAreLegal, NoneIsLeft, AllThatCameAreGone, DirtyBlocksArePending, GetsAreShown, BadReadsAreShown, UnreadEndsAreShown, ReportsTellTheirRuns};
 
 use drive_scene::maps_stay;
 use geometry_map::{blocks_are_at_user_sectors, two_blocks_are_never_at_one_sector};
@@ -44,8 +44,8 @@ pub fn first_read_settles()
     ensures { OfRunsWithoutStrays FirstReadSettles }
 {}
 
-/// When a run is over, no command is in, and as many came as ended, were aborted and were cut off. Each end is GOOD, CHECK
-/// CONDITION or TASK SET FULL; none ends twice, or ends and is aborted; and one that ends with success started.
+/// When a run is over, each command that came has ended, was aborted or was cut off, and as many came as did so. Each end is GOOD,
+/// CHECK CONDITION or TASK SET FULL; none ends twice, or ends and is aborted; and one that ends with success started.
 pub fn commands_are_accounted_for()
     ensures idle { OfGoodRuns NoneIsLeft }
     ensures sum { OfGoodRuns AllThatCameAreGone }
@@ -54,7 +54,7 @@ pub fn commands_are_accounted_for()
     ensures started { OfGoodRuns SuccessesFollowStarts }
 {}
 
-/// Without strays, what initiators have seen up to any turn is a legal history.
+/// In a run without strays, what initiators have seen up to any turn is a legal history.
 pub fn beginnings_are_legal()
     ensures { OfRunsWithoutStrays BeginningsAreLegal }
 {}
@@ -77,7 +77,8 @@ pub fn reads_give_their_own_write()
 {}
 
 /// Without strays, of two reads of a block that aren't bad, over power cuts between, the later gives what the earlier gave or a
-/// value that was put between, where each value that was put before the earlier one was hardened, or cut off, before it.
+/// value that was put between, and none that is older than what was hardened last between. It asks that nothing is pending at the
+/// earlier read: behind each put of the block, and each give-up of it, came a harden of the block or a power cut.
 pub fn ruled_out_values_stay_out()
     ensures { OfRunsWithoutStrays RuledOutValuesStayOut }
 {}
@@ -101,8 +102,8 @@ pub fn hardened_writes_stand()
     ensures synced { OfRunsWithoutStrays SyncedValuesStand }
 {}
 
-/// Of each command nothing comes before its arrival; then until its start only TASK SET FULL or an abort; and nothing behind its
-/// end, its abort or a power cut.
+/// Of each command the arrival comes first, and once; then until its start, which comes once, only an end with TASK SET FULL or an
+/// abort; and nothing behind its end, its abort or a power cut.
 pub fn entries_fit_their_stage()
     ensures { OfGoodRuns EntriesFitTheirStage }
 {}
@@ -117,7 +118,7 @@ pub fn tasks_start_in_order()
 /// was a bad get of this one. So without strays each stage had failed there.
 pub fn unread_ends_follow_bad_gets()
     ensures got { OfGoodRuns UnreadEndsFollowBadGets }
-    ensures shown { UnreadEndsAreShown }
+    ensures shown { OfWholeRunsWithoutStrays UnreadEndsAreShown }
 {
     gets_are_shown();
 }
@@ -128,12 +129,13 @@ pub fn dirty_blocks_are_pending()
     ensures { OfGoodRuns DirtyBlocksArePending }
 {}
 
-/// What a command gets of a block that isn't dirty are data that a stage found after those before it found nothing, or, where
-/// its mode values and its command block allow the cache, data that were put or found since the power came on. It gets the
-/// block as lost only where each stage found nothing or one found a lost mark; without strays, only where each found nothing.
+/// What a command gets of a block for which nothing is pending are data that a stage found after those before it found nothing; or,
+/// where nothing was tried and the command is a READ without FUA that started while RCD is 0, data that were put or found since the
+/// power came on. It gets the block as lost only where each stage found nothing or one found a lost mark; without strays, and
+/// whatever is pending, only where each found nothing.
 pub fn gets_are_shown()
-    ensures found { GetsAreShown }
-    ensures bad { BadReadsAreShown }
+    ensures found { OfWholeRuns GetsAreShown }
+    ensures bad { OfWholeRunsWithoutStrays BadReadsAreShown }
 {
     maps_stay();
     two_blocks_are_never_at_one_sector();
@@ -143,7 +145,7 @@ pub fn gets_are_shown()
 /// The report of a good run, printed whole, is the report of its turns, where its numbers fit: so `read_run` gives the run's own
 /// turns of it, operations counted from behind the factory's.
 pub fn reports_tell_their_runs()
-    ensures { ReportsTellTheirRuns }
+    ensures { OfWholeRuns ReportsTellTheirRuns }
 {
     reports_read_again();
 }
