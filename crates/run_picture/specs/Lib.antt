@@ -1,0 +1,17 @@
+pub mod Events
+pub mod Points
+pub mod Spans
+pub mod Marks
+pub mod Window
+pub mod Blocks
+pub mod Words
+pub mod Tags
+pub mod Shapes
+pub mod Frame
+pub mod Style
+pub mod Drawing
+pub mod Draw
+pub mod Laws
+pub mod Nesting
+pub mod Ids
+pub mod Harmless
