@@ -27,10 +27,10 @@ use Rattle.drive_core.specs.Accepting.{accepted_of}
 use Rattle.drive_scene.specs.View.{View, view}
 use Rattle.drive_core.specs.Commands.{IsAtBlock, IsStaged, IsUnderWay}
 use Rattle.drive_core.specs.Fits.{Fits}
-use Rattle.drive_scene.specs.Able.{held_by_other, work_refused, is_able, nothing_waiting}
+use Rattle.drive_scene.specs.Able.{held_by_other, kept_waiting, work_refused, is_able, nothing_waiting}
 use Rattle.drive_scene.specs.Progress.{SomebodyIsAble}
 use Rattle.drive_core.proofs.AtBlock.{at_block}
-use Rattle.drive_core.proofs.Flightless.{holder_alone}
+use Rattle.drive_core.proofs.Flightless.{holder_alone, kept_alone}
 use Rattle.drive_scene.proofs.Walking.{member-number, able-quiet}
 use Rattle.drive_scene.proofs.Apart.{unheld_sync, unheld_write}
 
@@ -124,9 +124,9 @@ record IsFree (s : Scene) : Type 0 where
   free : work_refused s c m ≡ None
 
 -- started, and what it needs isn't held
-unheld : (s : Scene) (c : ℕ) (m : Member) → m.started ≡ true → option_and_then (held_by_other s c) (needed_block s c) ≡ None → work_refused s c m ≡ None
-unheld s c m started none =
-    cond-true m.started (option_and_then (held_by_other s c) (needed_block s c)) (option_map answer.Dormant (first_forbidding s.hist.set m.task)) started ∙ none
+unheld : (s : Scene) (c : ℕ) (m : Member) → s.back.flights ≡ [] → m.started ≡ true → option_and_then (held_by_other s c) (needed_block s c) ≡ None → work_refused s c m ≡ None
+unheld s c m flightless started none =
+    cond-true m.started (kept_waiting s c) (option_map answer.Dormant (first_forbidding s.hist.set m.task)) started ∙ (kept_alone s c flightless ∙ none)
 
 -- a block that no other command holds is held by nobody else
 none_holds : (s : Scene) (c b : ℕ) → s.back.flights ≡ [] → command_besides s (label.Work c) b ≡ None → held_by_other s c b ≡ None
@@ -148,7 +148,7 @@ free_holder s d q b fits held =
       c = q;
       m = holds_it.m;
       is_in = holds_it.is_in;
-      free = unheld s q holds_it.m holds_it.started
+      free = unheld s q holds_it.m fits.flightless holds_it.started
           (ap (option_and_then (held_by_other s q)) holds_it.needs ∙ holder_free s q b (command_besides s (label.Work q) b) fits.apart fits.flightless held refl);
     }
 
@@ -158,7 +158,7 @@ by_holder s d c b m None fits is_in started needs none = record {
   c = c;
   m = m;
   is_in = is_in;
-  free = unheld s c m started (ap (option_and_then (held_by_other s c)) needs ∙ none_holds s c b fits.flightless none);
+  free = unheld s c m fits.flightless started (ap (option_and_then (held_by_other s c)) needs ∙ none_holds s c b fits.flightless none);
 }
 by_holder s d c b m (Some q) fits is_in started needs is = free_holder s d q b fits (found_in s c b q s.hist.set is).held
 
@@ -168,7 +168,7 @@ by_need s d c m None fits is_in started needs = record {
   c = c;
   m = m;
   is_in = is_in;
-  free = unheld s c m started (ap (option_and_then (held_by_other s c)) needs);
+  free = unheld s c m fits.flightless started (ap (option_and_then (held_by_other s c)) needs);
 }
 by_need s d c m (Some b) fits is_in started needs = by_holder s d c b m (command_besides s (label.Work c) b) fits is_in started needs refl
 
@@ -179,7 +179,7 @@ by_start s d c m false fits is_in started runs = record {
   c = c;
   m = m;
   is_in = is_in;
-  free = cond-false m.started (option_and_then (held_by_other s c) (needed_block s c)) (option_map answer.Dormant (first_forbidding s.hist.set m.task)) started
+  free = cond-false m.started (kept_waiting s c) (option_map answer.Dormant (first_forbidding s.hist.set m.task)) started
       ∙ ap (option_map answer.Dormant) runs;
 }
 

@@ -17,10 +17,10 @@ use Rattle.drive_scene.specs.declared.answer.TurnAnswer.TheVariants as answer
 use Rattle.drive_scene.specs.Scene.{Scene}
 use Rattle.drive_scene.specs.Holds.{held_block, holds, needed_block}
 use Rattle.drive_scene.specs.Holds as scene
-use Rattle.drive_scene.specs.Able.{held_by_other, work_refused, refusal_of_work}
+use Rattle.drive_scene.specs.Able.{held_by_other, kept_waiting, work_refused, refusal_of_work}
 use Rattle.drive_scene.proofs.Walking.{member-number, member-itself, refusal-is}
 use Rattle.drive_scene.specs.Evidence.{lba}
-use Rattle.drive_core.proofs.Flightless.{holder_alone}
+use Rattle.drive_core.proofs.Flightless.{holder_alone, kept_alone}
 use Rattle.drive_core.specs.declared.accepted.Accepted.{Accepted}
 use Rattle.drive_core.specs.declared.able.Claim.{Claim}
 use Rattle.drive_core.specs.Accepting.{is_numbered}
@@ -76,7 +76,8 @@ pub started-refused : (s : Scene) (m : Member) (claim : Claim) (holders : List C
 started-refused s m claim holders none started claims all =
     (λ i. held_back (all i) (claims i))
     ∙ (held-back-by s m.task.c (needed_block s m.task.c) none
-    ∙ sym (ap (λ (t : Bool). cond t (option_and_then (held_by_other s m.task.c) (needed_block s m.task.c)) (option_map answer.Dormant (first_forbidding s.hist.set m.task))) started))
+    ∙ (sym (kept_alone s m.task.c none)
+    ∙ sym (ap (λ (t : Bool). cond t (kept_waiting s m.task.c) (option_map answer.Dormant (first_forbidding s.hist.set m.task))) started)))
 
 -- one that wasn't is refused by the set
 pub dormant-refused : (s : Scene) (set : List Member) (m : Member) → m.started ≡ false → set ≡ s.hist.set → member_of set m.task.c ≡ Some m
@@ -85,7 +86,7 @@ dormant-refused s set m waits same is =
     ap (λ (o : Option Member). option_map answer.Dormant (option_and_then (λ (x : Member). cond x.started None (first_forbidding set x.task)) o)) is
     ∙ (ap (λ (t : Bool). option_map answer.Dormant (cond t None (first_forbidding set m.task))) waits
     ∙ (ap (λ (ms : List Member). option_map answer.Dormant (first_forbidding ms m.task)) same
-    ∙ sym (ap (λ (t : Bool). cond t (option_and_then (held_by_other s m.task.c) (needed_block s m.task.c)) (option_map answer.Dormant (first_forbidding s.hist.set m.task))) waits)))
+    ∙ sym (ap (λ (t : Bool). cond t (kept_waiting s m.task.c) (option_map answer.Dormant (first_forbidding s.hist.set m.task))) waits)))
 
 -- one more member of the set claims
 pub one_more : (s : Scene) (members : List Member) (i : ℕ) (m : Member) (claim : Claim) (xs ys : List Claim) → members ≡ s.hist.set → i < length members

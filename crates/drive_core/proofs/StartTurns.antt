@@ -56,7 +56,7 @@ use Rattle.command_engine.specs.Need.{end_of}
 use Rattle.drive_scene.specs.Scene.{Scene, capacity, beat}
 use Rattle.drive_scene.specs.After.{scene_after, window_after, background_after}
 use Rattle.drive_scene.proofs.DestageTurns.{quiet_back}
-use Rattle.drive_scene.specs.Able.{refusal_of_work, held_by_other, work_refused}
+use Rattle.drive_scene.specs.Able.{refusal_of_work, kept_waiting, work_refused}
 use Rattle.drive_scene.specs.Holds.{held_block, held_by_plan, needed_block}
 use Rattle.drive_core.specs.Accepting.{accepted_of, under_way, Replaces, Drops}
 use Rattle.drive_scene.specs.View.{View, view}
@@ -109,7 +109,7 @@ by_accepted s d c (Some a) o_is staged none free =
       works = none;
       waiting = waiting;
       free = not_dormant (first_forbidding s.hist.set staged.member.task)
-          (sym (ap (λ (b : Bool). cond b (option_and_then (held_by_other s c) (needed_block s c)) (option_map answer.Dormant (first_forbidding s.hist.set staged.member.task))) waiting.started) ∙ refused);
+          (sym (ap (λ (b : Bool). cond b (kept_waiting s c) (option_map answer.Dormant (first_forbidding s.hist.set staged.member.task))) waiting.started) ∙ refused);
     }
 
 pub may_start : (s : Scene) (d : Server) (c : ℕ) → MayWork s d c → under_way d.commands.items c ≡ None → MayStart s d c

@@ -51,7 +51,8 @@ use Rattle.drive_scene.specs.Scene.{Scene}
 use Rattle.drive_scene.specs.declared.answer.TurnAnswer.TheVariants as answer
 use Rattle.drive_scene.specs.declared.event.Holder.{Holder}
 use Rattle.drive_scene.specs.Holds.{holder_besides, held_by_plan, held_block, needed_by_plan, needed_block}
-use Rattle.drive_scene.specs.Able.{refusal_of_work, held_by_other, work_refused}
+use Rattle.drive_scene.specs.Able.{refusal_of_work, held_by_other, kept_waiting, work_refused}
+use Rattle.drive_core.proofs.Flightless.{unheld_by_other}
 use Rattle.drive_core.specs.Accepting.{accepted_of, under_way, errand_of, Replaces}
 use Rattle.drive_scene.specs.Evidence.{lba}
 use Rattle.drive_scene.specs.View.{View, view}
@@ -179,7 +180,7 @@ pub free_block : (s : Scene) (c : ℕ) (m : Member) (n : ℕ) → member_of s.hi
 free_block s c m n is_in started needs free =
     let refused : work_refused s c m ≡ None = sym (ap (λ (o : Option Member). option_map_or (work_refused s c) o (Some (answer.Idle 0))) is_in) ∙ free in
     let kept : option_and_then (held_by_other s c) (needed_block s c) ≡ None =
-    sym (ap (λ (b : Bool). cond b (option_and_then (held_by_other s c) (needed_block s c)) (option_map answer.Dormant (first_forbidding s.hist.set m.task))) started) ∙ refused in
+    unheld_by_other s c (sym (ap (λ (b : Bool). cond b (kept_waiting s c) (option_map answer.Dormant (first_forbidding s.hist.set m.task))) started) ∙ refused) in
     let here : held_by_other s c n ≡ None = sym (ap (option_and_then (held_by_other s c)) needs) ∙ kept in
     not_held s n (holder_besides s (Work c) n) here
 

@@ -11,6 +11,7 @@ use Rattle.move_table.specs.Table.{taken}
 use Rattle.drive_scene.specs.Flights.{IsFlight, AreApart}
 use Rattle.drive_scene.specs.InFlight.{HasCome, HaveOwnOwners, NoFlightsAreValid, FlightsFit}
 use Rattle.drive_scene.proofs.Tables.{within_map}
+use Rattle.drive_scene.proofs.MoveLists.{IsEarlier}
 
 -- where no move is in flight
 pub no_flights : NoFlightsAreValid
@@ -23,7 +24,7 @@ no_flights s size valid none =
       valid = valid;
       in_flight = record {
         flights = each (IsFlight s);
-        numbers = pairs (λ f g. f.j ≢ g.j);
+        ascend = pairs IsEarlier;
         apart = pairs AreApart;
         owners = pairs HaveOwnOwners;
         chains = each (λ f. AllPairs HaveOwnSpares f.job.chain);

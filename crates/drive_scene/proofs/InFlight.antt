@@ -44,6 +44,7 @@ use Rattle.drive_scene.proofs.Leaving.{state_left}
 use Rattle.drive_scene.proofs.OtherEntries.{same_owed, untouched_then, entries_other, begun_other, settings_other, is_cut, own_uncut, blocks_off, arrived_more, is_dropped, all_left, pairs_left, taken_left, are_aborts, drops_aborted, stays_in, arrives_other}
 use Rattle.drive_scene.proofs.OtherOps.{off_place, off_spare}
 use Rattle.drive_scene.proofs.LeftAlone.{leaves_owner, alone, ticked, ticked_blocks, ticked_settings, from_outside, IsMere, answered, aborts, flights_hold}
+use Rattle.drive_scene.proofs.MoveLists.{IsEarlier}
 
 module _ (own_sectors : BlocksHaveOwnSectors) (no_places : FreeSparesAreNoPlaces) (s : Scene) (size : s.map.size ≡ s.size) (valid : IsValidMap s.map)
     (all : AreInFlight s) where
@@ -231,7 +232,7 @@ module _ (own_sectors : BlocksHaveOwnSectors) (no_places : FreeSparesAreNoPlaces
       λ R before. subst (λ (fs : List Flight). AllPairs R fs) (sym is.flights) (pairs_left R s.back.flights entries before) in
       record {
         flights = λ k d within. flights_stay s u (get_or u.back.flights k d) (were k d within) (leave l entries ops good other k d within);
-        numbers = pairs (λ f g. f.j ≢ g.j) all.numbers;
+        ascend = pairs IsEarlier all.ascend;
         apart = pairs AreApart all.apart;
         owners = pairs HaveOwnOwners all.owners;
         chains = All-same (λ (f : Flight). AllPairs HaveOwnSpares f.job.chain) u.back.flights rest is.flights

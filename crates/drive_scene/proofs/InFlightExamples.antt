@@ -110,7 +110,7 @@ both_in_flight s =
     record {
       flights = each (IsFlight (with_both s)) (found_flight s 1 5 21 44 (Some 3) (omega arith) (omega arith) refl (record { spare = refl; in_no_pair = refl }))
           (found_flight s 2 6 22 45 (Some 4) (omega arith) (omega arith) refl (record { spare = refl; in_no_pair = refl }));
-      numbers = two (λ f g. f.j ≢ g.j) (λ same. absurd (omega (arith, same)));
+      ascend = two (λ f g. f.j < g.j) (omega arith);
       apart = two AreApart (apart (stored small s.ops (lba 5)) (stored small s.ops (lba 6)));
       owners = two HaveOwnOwners (own_owners (stored small s.ops (lba 5)) (stored small s.ops (lba 6)));
       chains = each (λ f. AllPairs HaveOwnSpares f.job.chain) (once (pair (sector 21) (sector 44))) (once (pair (sector 22) (sector 45)));

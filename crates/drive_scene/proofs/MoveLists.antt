@@ -20,6 +20,34 @@ use Rattle.drive_scene.proofs.OtherEntries.{fewer_taken}
 abbrev pub HaveOwnNumbers : Flight → Flight → Type 0
 HaveOwnNumbers f g = f.j ≢ g.j
 
+-- one move was opened before another
+abbrev pub IsEarlier : Flight → Flight → Type 0
+IsEarlier f g = f.j < g.j
+
+-- numbers that ascend differ
+pub own_numbers : (flights : List Flight) → AllPairs IsEarlier flights → AllPairs HaveOwnNumbers flights
+own_numbers flights ascend i k d below within same = let less = ascend i k d below within in omega (arith, same)
+
+-- a move that stands elsewhere has its number
+number_with : (j : ℕ) (x : Job) (f : Flight) → (if f.j == j then record f { job = x } else f).j ≡ f.j
+number_with j x f = by (f.j == j)
+  where
+    by : (t : Bool) → (cond t (record f { job = x }) f).j ≡ f.j
+    by true = refl
+    by false = refl
+
+pub ascend_with : (j : ℕ) (x : Job) (flights : List Flight) → AllPairs IsEarlier flights → AllPairs IsEarlier (with_job j x flights)
+ascend_with j x flights ascend i k d below within =
+    let h : Flight → Flight = λ f. if f.j == j then record f { job = x } else f in
+    let right : k < length flights = omega (arith, within, length-map flights h) in
+    let left : i < length flights = omega arith in
+    let less : (get_or flights i d).j < (get_or flights k d).j = ascend i k d below right in
+    let first : (get_or (with_job j x flights) i d).j ≡ (get_or flights i d).j =
+    ap (λ (f : Flight). f.j) (get_or-map h flights i d d left) ∙ number_with j x (get_or flights i d) in
+    let second : (get_or (with_job j x flights) k d).j ≡ (get_or flights k d).j =
+    ap (λ (f : Flight). f.j) (get_or-map h flights k d d right) ∙ number_with j x (get_or flights k d) in
+    omega (arith, first, second)
+
 -- where the move of a number stands
 pub record IsAt (flights : List Flight) (j : ℕ) (job : Job) : Type 0 where
   pub at : ℕ

@@ -1,9 +1,9 @@
 -- The turns of moves are good.
 use Rattle.std.proofs.Common.{◌≡◌, ◌≢◌, ◌∙◌, ◌⊎◌, inl, inr, ap, sym, refl, subst, ℕ, ◌<◌, ◌≤◌, Bool, true, false, true≢false, cond, eqb, List, [], ◌∷◌, ◌++◌, take, length, Option, Some, None, arith, append-nil, append_assoc}
-use Rattle.std.specs.Prelude.{All, map, ◌||◌}
+use Rattle.std.specs.Prelude.{All, map, ◌||◌, ◌==◌}
 use Rattle.std.specs.List.{list_any}
-use Rattle.std.specs.Option.{is_none}
-use Rattle.std.proofs.lemmas.Bool.{ne_eqb}
+use Rattle.std.specs.Option.{is_none, option_map_or, option_and_then}
+use Rattle.std.proofs.lemmas.Bool.{ne_eqb, eqb-true}
 use Rattle.std.proofs.lemmas.List.Elements.{All-head, All-tail}
 use Rattle.disk_base.specs.Along.{Along, all_along}
 use Rattle.disk_base.specs.declared.address.Lba.{Lba}
@@ -37,8 +37,9 @@ use Rattle.block_machine.specs.Turns.{entries_lawful, blocks_lawful}
 use Rattle.block_machine.proofs.Alongs.{along_both}
 use Rattle.block_machine.proofs.Booleans.{neither, and_both}
 use Rattle.move_table.specs.declared.flight.Flight.{Flight}
+use Rattle.move_table.specs.Table.{job_in}
 use Rattle.drive_scene.specs.Scene.{Scene, capacity}
-use Rattle.drive_scene.specs.After.{committed_by, map_committed, window_of_owner, windows_committed, scene_after}
+use Rattle.drive_scene.specs.After.{if_committing, committed_by, map_committed, window_of_owner, windows_committed, scene_after}
 use Rattle.drive_scene.specs.Holds.{holder_besides}
 use Rattle.drive_scene.specs.Evidence.{Shows}
 use Rattle.drive_scene.specs.Carried.{commit_entries, cut_entries}
@@ -99,6 +100,25 @@ record Parts (s : Scene) (f : Flight) (entries : List Entry) (ops : List Op) : T
   stores : strays (s.ops ++ ops) ≡ 0 → (q : Lba) → q.0 < capacity s
       → IsAllowed (scene_after s (turn_of_move f entries ops)).hist.blocks q (stored (scene_after s (turn_of_move f entries ops)).map (s.ops ++ ops) q)
 
+-- a move that a turn commits is the one in flight of its number
+abbrev pub OnlyOwn : move_job.Job → Option move_job.Job → Type 0
+OnlyOwn job None = Unit {0}
+OnlyOwn job (Some other) = other ≡ job
+
+commits_own : (s : Scene) (j : ℕ) (job : move_job.Job) (ops : List Op) → job_in s.back.flights j ≡ Some job → OnlyOwn job (committed_by s (Job j) ops)
+commits_own s j job ops is =
+    subst (λ (o : Option move_job.Job). OnlyOwn job (cond (is_cut_off ops) None (option_and_then (λ x. if_committing x x.step) o))) (sym is) (by (is_cut_off ops))
+  where
+    step_by : (step : JobStep) → OnlyOwn job (if_committing job step)
+    step_by Writing = tt
+    step_by Checking = tt
+    step_by Committing = refl
+    step_by (Over end) = tt
+
+    by : (t : Bool) → OnlyOwn job (cond t None (if_committing job job.step))
+    by true = tt
+    by false = step_by job.step
+
 -- then it is good
 good_by : (s : Scene) (f : Flight) (entries : List Entry) (ops : List Op) → MayMove s f entries ops → Parts s f entries ops → GoodTurn s (turn_of_move f entries ops)
 good_by s f entries ops may parts =
@@ -117,7 +137,7 @@ good_by s f entries ops may parts =
       order = parts.ordered;
       waits = refl;
       window = λ q. short_windows o s.windows q (may.windows q);
-      held = λ q below about. ap (λ (n : ℕ). holder_besides s (Job f.j) n) (at q below (list_any (is_on q) entries) refl about) ∙ may.free;
+      held = λ q below about. ap (λ (n : ℕ). holder_besides s (Job f.j) n) (moved q below (committed_by s (Job f.j) ops) (commits_own s f.j f.job ops may.in_flight) about) ∙ may.free;
       stands = λ none taken may_be q below. subst (λ (v : Value). IsAllowed (scene_after s (turn_of_move f entries ops)).hist.blocks q v)
           (sym (may.present.finds taken may_be q)) (parts.stores none q (subst (λ (z : Size). q.0 < capacity_of z) size below));
       mapped = λ on readable. (may.present.there.present, may.present.may_be);
@@ -126,6 +146,15 @@ good_by s f entries ops may parts =
     at : (q : Lba) → q.0 < capacity s → (t : Bool) → list_any (is_on q) entries ≡ t → (t || list_any (is_at_sector (place_of s.map q)) ops) ≡ true → q.0 ≡ f.job.b.0
     at q below true on about = on_same f.job.b q entries parts.on_one on
     at q below false on about = absurd (true≢false (sym about ∙ parts.off q below))
+
+    moved : (q : Lba) → q.0 < capacity s → (o : Option move_job.Job) → OnlyOwn f.job o
+        → (option_map_or (λ (job : move_job.Job). job.b.0 == q.0) o false || (list_any (is_on q) entries || list_any (is_at_sector (place_of s.map q)) ops)) ≡ true → q.0 ≡ f.job.b.0
+    moved q below None own about = at q below (list_any (is_on q) entries) refl about
+    moved q below (Some job) own about = there (job.b.0 == q.0) refl about
+      where
+        there : (t : Bool) → (job.b.0 == q.0) ≡ t → (t || (list_any (is_on q) entries || list_any (is_at_sector (place_of s.map q)) ops)) ≡ true → q.0 ≡ f.job.b.0
+        there true same about = sym (eqb-true job.b.0 q.0 same) ∙ ap (λ (x : move_job.Job). x.b.0) own
+        there false same about = at q below (list_any (is_on q) entries) refl about
 
 -- a turn before the commit leaves the map and what is stored
 module _ (laws : Below) (s : Scene) (f : Flight) (ops : List Op) where

@@ -49,7 +49,7 @@ use Rattle.drive_scene.proofs.OtherOps.{meant_stays, strays_more, off_spare_alon
 use Rattle.drive_scene.proofs.InFlight.{others_keep}
 use Rattle.drive_scene.proofs.LeftAlone.{leaves_owner, alone}
 use Rattle.drive_scene.proofs.FlightsFit.{flights_fit}
-use Rattle.drive_scene.proofs.MoveLists.{HaveOwnNumbers, IsAt, found, own_apart, all_with, pairs_with, taken_with, taken_without, all_without, untaken}
+use Rattle.drive_scene.proofs.MoveLists.{IsEarlier, own_numbers, ascend_with, IsAt, found, own_apart, all_with, pairs_with, taken_with, taken_without, all_without, untaken}
 use Rattle.drive_scene.proofs.MoveEntries.{is_of_move_on, moves_are, moves_off, moves_uncut, moves_settings, moves_untouched}
 use Rattle.drive_scene.proofs.MovesOnward.{apart_turned, owners_turned, other_spare, window_other, IsOnward, onward, these_left}
 
@@ -97,11 +97,11 @@ module _ (laws : Below) (s : Scene) (has : HasValidFlights s) (j : ℕ) (entries
   IsElse f = f.j ≢ j
 
   apart_from : (k : ℕ) (d : Flight) → k < length s.back.flights → IsElse (get_or s.back.flights k d) → AreApart (flight j job) (get_or s.back.flights k d)
-  apart_from k d within other = own_apart s.back.flights j job all.numbers own AreApart apart_turned all.apart k d within other
+  apart_from k d within other = own_apart s.back.flights j job (own_numbers s.back.flights all.ascend) own AreApart apart_turned all.apart k d within other
 
   owners_from : (k : ℕ) (d : Flight) → k < length s.back.flights → IsElse (get_or s.back.flights k d)
       → HaveOwnOwners (flight j job) (get_or s.back.flights k d)
-  owners_from k d within other = own_apart s.back.flights j job all.numbers own HaveOwnOwners owners_turned all.owners k d within other
+  owners_from k d within other = own_apart s.back.flights j job (own_numbers s.back.flights all.ascend) own HaveOwnOwners owners_turned all.owners k d within other
 
   -- the blocks of others
   block_left : (q : Lba) → q ≢ job.b → after.hist.blocks q.0 ≡ s.hist.blocks q.0
@@ -170,7 +170,7 @@ module _ (laws : Below) (s : Scene) (has : HasValidFlights s) (j : ℕ) (entries
       these_left s after (without_job j s.back.flights) entries is came_more (record {
         each = all_without j (IsFlight after) s.back.flights
             (λ k d within other. flights_stay s after (get_or s.back.flights k d) (all.flights k d within) (leaves k d within other));
-        numbers = AllPairs-filter HaveOwnNumbers p s.back.flights all.numbers;
+        ascend = AllPairs-filter IsEarlier p s.back.flights all.ascend;
         apart = AllPairs-filter AreApart p s.back.flights all.apart;
         owners = AllPairs-filter HaveOwnOwners p s.back.flights all.owners;
         chains = All-filter p (λ (f : Flight). AllPairs HaveOwnSpares f.job.chain) s.back.flights all.chains;
@@ -274,12 +274,12 @@ module _ (laws : Below) (s : Scene) (has : HasValidFlights s) (j : ℕ) (entries
         by : (x.chain ≡ job.chain) ⊎ ((p : Psn) × (next_spare s ≡ Some p) × (x.chain ≡ job.chain ++ pair (spare_of job) p ∷ []))
             → length s.map.grown + length (taken (with_job j x s.back.flights)) ≤ PAIRS_MAX
         by (inl same) =
-            omega (arith, all.room, taken_with j x job s.back.flights all.numbers in_flight, ap (λ (chain : List Pair). length chain) same)
+            omega (arith, all.room, taken_with j x job s.back.flights (own_numbers s.back.flights all.ascend) in_flight, ap (λ (chain : List Pair). length chain) same)
         by (inr more) =
             omega (
               arith,
               (laws.next_is_free s.map (taken s.back.flights) more.0 more.1).few,
-              taken_with j x job s.back.flights all.numbers in_flight,
+              taken_with j x job s.back.flights (own_numbers s.back.flights all.ascend) in_flight,
               ap (λ (chain : List Pair). length chain) more.2,
               length-append job.chain (pair (spare_of job) more.0 ∷ []),
             )
@@ -294,10 +294,10 @@ module _ (laws : Below) (s : Scene) (has : HasValidFlights s) (j : ℕ) (entries
         these_left s after (with_job j x s.back.flights) entries is came_more (record {
           each = all_with j x (IsFlight after) s.back.flights (own_then more)
               (λ k d within other. flights_stay s after (get_or s.back.flights k d) (all.flights k d within) (leaves k d within other));
-          numbers = pairs_with j x HaveOwnNumbers s.back.flights all.numbers all.numbers (λ k d within other. ((λ same. other (sym same)), other));
-          apart = pairs_with j x AreApart s.back.flights all.numbers all.apart
+          ascend = ascend_with j x s.back.flights all.ascend;
+          apart = pairs_with j x AreApart s.back.flights (own_numbers s.back.flights all.ascend) all.apart
               (λ k d within other. (apart_then x x_is k d within other, apart_turned (flight j x) (get_or s.back.flights k d) (apart_then x x_is k d within other)));
-          owners = pairs_with j x HaveOwnOwners s.back.flights all.numbers all.owners
+          owners = pairs_with j x HaveOwnOwners s.back.flights (own_numbers s.back.flights all.ascend) all.owners
               (λ k d within other. (owners k d within other, owners_turned (flight j x) (get_or s.back.flights k d) (owners k d within other)));
           chains = all_with j x (λ (f : Flight). AllPairs HaveOwnSpares f.job.chain) s.back.flights (chain_then x x_is)
               (λ k d within other. all.chains k d within);

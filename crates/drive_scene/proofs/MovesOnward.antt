@@ -22,7 +22,7 @@ use Rattle.drive_scene.specs.InFlight.{AreInFlight, HasCome, HaveOwnOwners}
 use Rattle.drive_scene.proofs.Tables.{put_at-other}
 use Rattle.drive_scene.proofs.CommitTurns.{end_among}
 use Rattle.drive_scene.proofs.OtherEntries.{all_left, pairs_left, taken_left}
-use Rattle.drive_scene.proofs.MoveLists.{HaveOwnNumbers}
+use Rattle.drive_scene.proofs.MoveLists.{IsEarlier}
 
 -- moves that are apart are so in either order
 pub apart_turned : (f g : Flight) → AreApart f g → AreApart g f
@@ -64,7 +64,7 @@ onward s job (Over end) last = record { block = refl; owner = refl; chain = inl 
 -- moves that will be in flight once entries dropped some
 pub record AreThese (s u : Scene) (flights : List Flight) : Type 0 where
   pub each : All (IsFlight u) flights
-  pub numbers : AllPairs HaveOwnNumbers flights
+  pub ascend : AllPairs IsEarlier flights
   pub apart : AllPairs AreApart flights
   pub owners : AllPairs HaveOwnOwners flights
   pub chains : All (λ f. AllPairs HaveOwnSpares f.job.chain) flights
@@ -80,7 +80,7 @@ these_left s u flights entries is more these =
     (all_left (λ (f : Flight). HasCome s.hist.arrived f.job.owner) flights entries these.came) in
     record {
       flights = subst (λ (fs : List Flight). All (IsFlight u) fs) (sym is) (all_left (IsFlight u) flights entries these.each);
-      numbers = subst (Pairs HaveOwnNumbers) (sym is) (pairs_left HaveOwnNumbers flights entries these.numbers);
+      ascend = subst (Pairs IsEarlier) (sym is) (pairs_left IsEarlier flights entries these.ascend);
       apart = subst (Pairs AreApart) (sym is) (pairs_left AreApart flights entries these.apart);
       owners = subst (Pairs HaveOwnOwners) (sym is) (pairs_left HaveOwnOwners flights entries these.owners);
       chains = subst (λ (fs : List Flight). All (λ (f : Flight). AllPairs HaveOwnSpares f.job.chain) fs) (sym is)

@@ -1,6 +1,8 @@
 -- A turn that has no operation and is about no block.
 use Rattle.std.proofs.Common.{◌≡◌, Bool, false, true≢false, List, [], ◌++◌, sym, ap, ◌∙◌, subst, append-nil, ◌∷◌, Option, refl}
-use Rattle.std.specs.Prelude.{◌||◌}
+use Rattle.std.specs.Prelude.{◌||◌, ◌==◌}
+use Rattle.std.specs.List.{list_any}
+use Rattle.std.specs.Option.{option_map_or}
 use Rattle.std.proofs.lemmas.List.Elements.{All-nil, All-from_recursion}
 use Rattle.platter_model.specs.declared.op.Op.{Op}
 use Rattle.block_machine.specs.declared.entry.Entry.{Entry}
@@ -14,7 +16,7 @@ use Rattle.drive_scene.specs.Scene.{Scene, beat}
 use Rattle.drive_scene.specs.After.{map_committed, scene_after}
 use Rattle.drive_scene.specs.Evidence.{lba}
 use Rattle.drive_scene.specs.Present.{IsPresentMap}
-use Rattle.drive_scene.specs.GoodTurn.{IsStood, WritesBlockData, WritesBlocks, IsAllowed, IsStep, IsPowered, AreTriesShown}
+use Rattle.drive_scene.specs.GoodTurn.{IsStood, WritesBlockData, WritesBlocks, IsAllowed, IsStep, IsPowered, AreTriesShown, is_on}
 use Rattle.drive_scene.specs.Still.{IsStanding}
 use Rattle.drive_scene.specs.Laws.{StillTurnsAreGood, DamageTurnsAreGood}
 use Rattle.platter_model.specs.declared.op.Op.TheVariants.{Damaged}
@@ -65,7 +67,9 @@ good_still s label entries standing still =
       order = still.order;
       waits = still.waits;
       window = still.windows;
-      held = λ b below about. absurd (true≢false (sym about ∙ ap (λ (t : Bool). t || false) (still.on_none b)));
+      held = λ b below about. absurd (true≢false (sym about
+          ∙ (ap (λ (o : Option move_job.Job). option_map_or (λ job. job.b.0 == b.0) o false || (list_any (is_on b) entries || false)) (still_uncommitted s label entries still.step)
+          ∙ ap (λ (t : Bool). t || false) (still.on_none b))));
       stands = subst (λ (m : DefectMap). IsStood m (s.ops ++ []) (scene_after s (beat label entries [])).hist.blocks) same
           (subst (λ (bs : Blocks). IsStood s.map (s.ops ++ []) bs) (sym still.unchanged) stood);
       mapped = λ on readable. subst (λ (m : DefectMap). IsPresent (meant_on (s.ops ++ [])) m × MayBeRecovered m.size (s.ops ++ []) m) same

@@ -1,5 +1,5 @@
 -- Which turns may come, and why others are refused, in the order of the reasons.
-use Rattle.std.specs.Prelude.{ℕ, ◌-◌, ◌%◌, ◌&&◌, ◌||◌, nat_le, Bool, true, false, if◌then◌else◌, List, [], ◌∷◌, ◌++◌, map, filter, length, slice_get, slice_index_or, Option, Some, None, fold}
+use Rattle.std.specs.Prelude.{ℕ, ◌-◌, ◌%◌, ◌&&◌, ◌||◌, nat_le, Bool, true, false, if◌then◌else◌, List, [], ◌∷◌, ◌++◌, map, filter, length, slice_get, slice_index_or, find, Option, Some, None, fold}
 use Rattle.std.specs.Option.{option_map, option_map_or, option_and_then, is_none, is_some, option_or}
 use Rattle.task_set.specs.declared.member.Member.{Member}
 use Rattle.task_set.specs.Members.{member_of, first_forbidding}
@@ -14,7 +14,8 @@ use Rattle.drive_scene.specs.declared.answer.Waiting.{Waiting}
 use Rattle.drive_scene.specs.declared.answer.Pick.{Pick}
 use Rattle.drive_scene.specs.declared.answer.Pick.TheVariants as pick
 use Rattle.drive_scene.specs.Scene.{Scene}
-use Rattle.move_table.specs.Table.{job_in}
+use Rattle.move_table.specs.Table.{is_owned_by, job_in}
+use Rattle.drive_scene.specs.declared.event.Holder.TheVariants as holder
 use Rattle.drive_scene.specs.Holds.{holder_besides, needed_block, destaged}
 use Rattle.drive_scene.specs.Run.{Run, scene_of}
 use Rattle.drive_scene.specs.Evidence.{lba}
@@ -30,10 +31,18 @@ is_spent r = nat_le turns_at_most (length r.turns)
 abbrev pub held_by_other : Scene → ℕ → ℕ → Option TurnAnswer
 held_by_other s c b = option_map (λ other. answer.Held (lba b) other) (holder_besides s (Work c) b)
 
--- a command that was started may be kept waiting for the block that it needs; one that wasn't, by the oldest that forbids its start
+-- a command waits for the first move in flight that it opened
+abbrev pub awaited : Scene → ℕ → Option TurnAnswer
+awaited s c = option_map (λ f. answer.Held f.job.b (holder.Job f.j)) (find (λ f. is_owned_by c f.job.owner) s.back.flights)
+
+-- a command that was started may be kept waiting for a move of its own, or for the block that it needs
+abbrev pub kept_waiting : Scene → ℕ → Option TurnAnswer
+kept_waiting s c = option_or (awaited s c) (option_and_then (held_by_other s c) (needed_block s c))
+
+-- and one that wasn't started, by the oldest that forbids its start
 abbrev pub work_refused : Scene → ℕ → Member → Option TurnAnswer
 work_refused s c m =
-    if m.started then option_and_then (held_by_other s c) (needed_block s c) else option_map answer.Dormant (first_forbidding s.hist.set m.task)
+    if m.started then kept_waiting s c else option_map answer.Dormant (first_forbidding s.hist.set m.task)
 
 -- why work on a command is refused: it isn't in, or has to wait
 abbrev pub refusal_of_work : Scene → ℕ → ℕ → Option TurnAnswer

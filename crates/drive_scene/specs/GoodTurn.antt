@@ -34,7 +34,7 @@ use Rattle.block_machine.specs.Steps.{begun, entry_after}
 use Rattle.block_machine.specs.Turns.{entries_lawful, blocks_lawful}
 use Rattle.move_table.specs.Table.{is_awaited}
 use Rattle.drive_scene.specs.Scene.{Scene, Beat, capacity}
-use Rattle.drive_scene.specs.After.{scene_after}
+use Rattle.drive_scene.specs.After.{committed_by, scene_after}
 use Rattle.drive_scene.specs.MoveTurn.{IsMoveTurn, is_cut_off}
 use Rattle.drive_scene.specs.Evidence.{Shows, IsNextTry}
 use Rattle.drive_scene.specs.Holds.{holder_besides, destaged}
@@ -146,9 +146,13 @@ IsFree s label.Destage b = holder_besides s label.Destage b.0 ≡ None
 IsFree s (label.Job j) b = holder_besides s (label.Job j) b.0 ≡ None
 IsFree s label.Scan b = ⊥
 
--- the turn has an entry on a block, or an operation at its place
+-- the turn commits a move of a block, so that the block lies elsewhere then
+abbrev pub moves_block : Scene → Beat → Lba → Bool
+moves_block s t b = option_map_or (λ job. job.b.0 == b.0) (committed_by s t.label t.ops) false
+
+-- the turn has an entry on a block, or an operation at its place, or moves it
 abbrev pub is_about : Scene → Beat → Lba → Bool
-is_about s t b = list_any (is_on b) t.entries || list_any (is_at_sector (place_of s.map b)) t.ops
+is_about s t b = moves_block s t b || (list_any (is_on b) t.entries || list_any (is_at_sector (place_of s.map b)) t.ops)
 
 -- an entry is a command's: it starts, gets, puts or hardens, passes over blocks, gives data, ends or changes mode values
 abbrev pub is_entry_of : ℕ → Entry → Bool

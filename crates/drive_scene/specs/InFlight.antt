@@ -1,5 +1,5 @@
 -- All moves in flight, and that turns leave them in flight.
-use Rattle.std.specs.Prelude.{◌≡◌, ◌≢◌, ℕ, ◌+◌, ◌≤◌, Bool, true, false, [], ◌++◌, length, All, AllPairs, Option, Some}
+use Rattle.std.specs.Prelude.{◌≡◌, ◌≢◌, ℕ, ◌+◌, ◌<◌, ◌≤◌, Bool, true, false, [], ◌++◌, length, All, AllPairs, Option, Some}
 use Rattle.geometry_map.specs.declared.limits.TheConstants.{PAIRS_MAX}
 use Rattle.geometry_map.specs.DefectMap.{IsValidMap, IsGrownList, HaveOwnSpares}
 use Rattle.block_machine.specs.declared.turn.Label.{Label}
@@ -19,11 +19,11 @@ HasCome arrived owner = (c : ℕ) → owner ≡ Some c → c ≤ arrived
 abbrev pub HaveOwnOwners : Flight → Flight → Type 0
 HaveOwnOwners f g = (c : ℕ) → f.job.owner ≡ Some c → g.job.owner ≢ Some c
 
--- the moves in flight are that, each of a number, a block, spares and an owner of its own, with each spare once in its chain; and their
--- spares, with the map's pairs, are no more than a map may have pairs
+-- the moves in flight are that, by their numbers, each of a block, spares and an owner of its own, with each spare once in its chain; and
+-- their spares, with the map's pairs, are no more than a map may have pairs
 pub record AreInFlight (s : Scene) : Type 0 where
   pub flights : All (IsFlight s) s.back.flights
-  pub numbers : AllPairs (λ f g. f.j ≢ g.j) s.back.flights
+  pub ascend : AllPairs (λ f g. f.j < g.j) s.back.flights
   pub apart : AllPairs AreApart s.back.flights
   pub owners : AllPairs HaveOwnOwners s.back.flights
   pub chains : All (λ f. AllPairs HaveOwnSpares f.job.chain) s.back.flights

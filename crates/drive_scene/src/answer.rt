@@ -20,7 +20,7 @@ pub enum TurnAnswer {
         /// Whether the background scan is done with a block in it.
         scanned: bool,
     },
-    /// The block that is needed is held.
+    /// The block that is needed is held, or the command waits for its own move of this block.
     Held {
         b: Lba,
         by: Holder,
